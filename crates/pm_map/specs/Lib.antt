@@ -1,0 +1,4 @@
+pub mod Canonical
+pub mod Meeting
+pub mod Rotation
+pub mod Structure

@@ -1,0 +1,6 @@
+//! Rooted maps: darts with a rotation, in which the darts `2k` and `2k + 1` are twins.
+#![tactic(auto)]
+
+mod rooted_map;
+
+pub use rooted_map::RootedMap;

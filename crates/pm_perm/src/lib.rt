@@ -1,0 +1,2 @@
+//! Permutations of the numbers below a bound, and their cycles.
+#![tactic(auto)]

@@ -1,0 +1,11 @@
+/// A leaf; the plant, at place 0 of the contour, counts as one.
+pub const LEAF: u8 = b'l';
+
+/// A bud.
+pub const BUD: u8 = b'b';
+
+/// The beginning of an edge to a child.
+pub const OPEN: u8 = b'(';
+
+/// The end of an edge to a child.
+pub const CLOSE: u8 = b')';

@@ -1,0 +1,48 @@
+ghost use Rattle.std.specs.Prelude.{◌≡◌, ℕ};
+
+use std::marker::Model;
+
+/// Why a word isn't the word of a blossoming tree, in the order in which the rules are tried. A place counts from 1 along
+/// the word; the root node is named by 0, and every other node by the place of its `(`.
+#[derive(Clone, Copy, Debug, PartialEq, Eq)]
+pub enum TreeRefusal {
+    /// There is no memory left. It may come at any word.
+    Memory,
+    /// A letter that is none of the four, a `)` that closes nothing or the last `(` that isn't closed: the least such place.
+    Text { place: u32 },
+    /// More letters than twice `MAX_EDGES` less one: how many.
+    TooMany { letters: u64 },
+    /// The least node whose degree is odd or above `MAX_DEGREE`.
+    Degree { place: u32 },
+    /// The least node of some degree 2i that hasn't i-1 buds.
+    Buds { place: u32 },
+}
+
+/// A blossoming tree (Schaeffer 1997), seen as the letters of its word.
+#[derive(Drop)]
+pub struct Tree {
+    letters: Vec<u8>,
+}
+
+impl Model for Tree {
+    ghost use Rattle.std.specs.Prelude.{List, ℕ};
+    ghost use Rattle.pm_trees.specs.Blossoming.{IsBlossoming};
+
+    ghost Value = { List ℕ };
+
+    ghost view = { λ t. t.letters.items };
+
+    ghost invariant = { λ t. IsBlossoming t.letters.items };
+}
+
+impl Tree {
+    ghost use Rattle.pm_trees.specs.Blossoming.{IsBlossoming};
+
+    /// The letters of the word, in order; the k-th, from 1, stands at place k.
+    pub fn letters(&self) -> &[u8]
+        ensures letters { result.now ≡ self.now }
+        ensures valid { IsBlossoming self.now }
+    {
+        &self.letters
+    }
+}
