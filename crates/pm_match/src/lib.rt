@@ -1,0 +1,2 @@
+//! The pairs of buds and leaves of a blossoming tree.
+#![tactic(auto)]
