@@ -57,3 +57,19 @@ count_below-all P zero h = refl
 count_below-all P (suc n) h = all_step P n (h n (omega arith)) (count_below-all P n (λ k lt. h k (omega arith))) where
   all_step : (P : ℕ → Bool) (n : ℕ) → P n ≡ true → count_below P n ≡ n → count_below P (suc n) ≡ suc n
   all_step P n h rest = grind arith
+
+-- more numbers, more that pass
+pub count_below-grows : (P : ℕ → Bool) (m n : ℕ) → m ≤ n → count_below P m ≤ count_below P n
+count_below-grows P m zero h = let e : m ≡ 0 = omega arith in rw e (omega arith)
+count_below-grows P m (suc n) h = elim (cases_eq m (suc n)) [
+    inl same ↦ rw same (omega arith)
+  | inr less ↦ grows_step P m n (count_below-grows P m n (omega arith)) ] where
+  grows_step : (P : ℕ → Bool) (m n : ℕ) → count_below P m ≤ count_below P n → count_below P m ≤ count_below P (suc n)
+  grows_step P m n h = grind arith
+
+-- of two tests of which each number passes exactly one, all numbers pass one
+pub count_below-parts : (P Q : ℕ → Bool) (n : ℕ) → ((k : ℕ) → k < n → P k ≡ not (Q k)) → count_below P n + count_below Q n ≡ n
+count_below-parts P Q zero h = omega arith
+count_below-parts P Q (suc n) h = parts_step P Q n (h n (omega arith)) (count_below-parts P Q n (λ k lt. h k (omega arith))) where
+  parts_step : (P Q : ℕ → Bool) (n : ℕ) → P n ≡ not (Q n) → count_below P n + count_below Q n ≡ n → count_below P (suc n) + count_below Q (suc n) ≡ suc n
+  parts_step P Q n h rest = grind arith
