@@ -1,3 +1,5 @@
-pub mod Closing
-pub mod Numbering
-pub mod Twins
+pub mod ClosureLemmas
+pub mod DartLemmas
+pub mod NumberingSteps
+pub mod OneClosure
+pub mod TwinLemmas

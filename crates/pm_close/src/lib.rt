@@ -1,2 +1,4 @@
 //! The closing of blossoming trees.
 #![tactic(auto)]
+
+mod numbering;
