@@ -1,1 +1,2 @@
+pub mod CarriedMeeting
 pub mod UniqueMeeting
