@@ -1,2 +1,3 @@
 pub mod CarriedMeeting
 pub mod UniqueMeeting
+pub mod WholeMeeting
