@@ -1,3 +1,4 @@
+pub mod CanonicalNames
 pub mod CarriedMeeting
 pub mod UniqueMeeting
 pub mod WholeMeeting
