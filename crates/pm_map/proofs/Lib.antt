@@ -1,4 +1,6 @@
 pub mod CanonicalNames
 pub mod CarriedMeeting
+pub mod Reached
+pub mod SameMaps
 pub mod UniqueMeeting
 pub mod WholeMeeting
