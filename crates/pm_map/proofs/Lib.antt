@@ -1,6 +1,8 @@
 pub mod CanonicalNames
 pub mod CarriedMeeting
+pub mod CarriedStructure
 pub mod Reached
 pub mod SameMaps
+pub mod UniqueCanonical
 pub mod UniqueMeeting
 pub mod WholeMeeting
