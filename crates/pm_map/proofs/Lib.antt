@@ -1,1 +1,9 @@
+pub mod CanonicalNames
 pub mod Carried
+pub mod CarriedMeeting
+pub mod CarriedStructure
+pub mod Reached
+pub mod SameMaps
+pub mod UniqueCanonical
+pub mod UniqueMeeting
+pub mod WholeMeeting
