@@ -1,10 +1,10 @@
 -- The laws of broken lines, for a form of any kind, and for the forms of one line.
-use Rattle.std.proofs.Common.{◌≡◌, ◌≢◌, ℕ, zero, suc, ◌+◌, ◌<◌, ◌≤◌, List, [], ◌∷◌, ◌++◌, length, refl, sym, ap, ◌∙◌, subst, ◌⊎◌, inl, inr, append_assoc, arith}
+use Rattle.std.proofs.Common.{◌≡◌, ◌≢◌, ℕ, zero, suc, ◌+◌, ◌<◌, List, [], ◌∷◌, ◌++◌, refl, sym, ap, ◌∙◌, subst, ◌⊎◌, inl, inr, append_assoc, arith}
 use Rattle.std.specs.List.{concat}
 use Rattle.std.proofs.lemmas.Bool.{cases_order}
 use Rattle.std.proofs.lemmas.List.{append-nil, append_cancel_left}
-use Rattle.pm_text.specs.Broken.{newline, HasNoNewline, lines, lines_and_end, first_lines, GoesOnValid, IsBrokenLine, IsOneLine, IsOneLineForm}
-use Rattle.pm_text.proofs.LineLemmas.{HasNoNewline-nil, IsWholeLines, one_whole_line, lines_and_end-whole, first_lines-whole, first_lines-past, first_lines-fewer, begins_with_whole_lines, GoesOn, first_lines-unfinished, first_lines-line, ends_with_newline, CutsAtNewline, cut_at_newline, is_unfinished, concat-lines, lines-append_line}
+use Rattle.pm_text.specs.Broken.{newline, HasNoNewline, lines, first_lines, GoesOnValid, IsBrokenLine, IsOneLine, IsOneLineForm}
+use Rattle.pm_text.proofs.LineLemmas.{HasNoNewline-nil, IsWholeLines, one_whole_line, first_lines-whole, first_lines-past, first_lines-fewer, begins_with_whole_lines, first_lines-line, ends_with_newline, cut_at_newline, is_unfinished, concat-lines, lines-append_line}
 
 -- a valid file has no broken line
 pub valid_has_no_broken_line : (valid : List ℕ → Type 0) (file : List ℕ) (line : ℕ) → valid file → IsBrokenLine valid file line → ⊥
@@ -18,12 +18,12 @@ not_before valid bytes one other b c before =
 pub broken_line_is_unique : (valid : List ℕ → Type 0) (bytes : List ℕ) (one other : ℕ) → IsBrokenLine valid bytes one → IsBrokenLine valid bytes other → one ≡ other
 broken_line_is_unique valid bytes one other b c =
     elim (cases_order one other) [
-      inl e ↦ e
-    | inr apart ↦
-      elim apart [
-        inl before ↦ absurd (not_before valid bytes one other b c before)
-      | inr after ↦ absurd (not_before valid bytes other one c b after)
-      ]
+      | inl e ↦ e
+      | inr apart ↦
+          elim apart [
+            | inl before ↦ absurd (not_before valid bytes one other b c before)
+            | inr after ↦ absurd (not_before valid bytes other one c b after)
+          ]
     ]
 
 -- where some file is valid, lines are counted from 1
@@ -36,8 +36,8 @@ pub broken_line_of_same_form : (valid also : List ℕ → Type 0) (bytes : List 
 broken_line_of_same_form valid also bytes line to from b = record {
   broken = λ file is_valid. b.broken file (from file is_valid);
   least = λ fewer less.
-    let goes_on = b.least fewer less in
-    record { file = goes_on.file; is_valid = to goes_on.file goes_on.is_valid; same = goes_on.same };
+      let goes_on = b.least fewer less in
+      record { file = goes_on.file; is_valid = to goes_on.file goes_on.is_valid; same = goes_on.same };
 }
 
 -- the reader's lemma: some valid file begins with the whole lines that were read, and none has the
@@ -56,14 +56,14 @@ broken_after_whole_lines valid count bytes read rest tail is whole is_valid none
 pub next_line_is_broken : (valid : List ℕ → Type 0) (count : ℕ) (bytes read rest tail : List ℕ) → bytes ≡ read ++ rest → IsWholeLines count read → valid (read ++ tail) → ((other : List ℕ) → valid (read ++ other) → first_lines 1 other ≢ first_lines 1 rest) → IsBrokenLine valid bytes (count + 1)
 next_line_is_broken valid count bytes read rest tail is whole is_valid none =
     broken_after_whole_lines valid count bytes read rest tail is whole is_valid
-      (λ file file_valid same.
-        let same_here : first_lines (count + 1) file ≡ first_lines (count + 1) (read ++ rest) = same ∙ ap (first_lines (count + 1)) is in
-        let goes_on = begins_with_whole_lines count read rest file whole (first_lines-fewer count (count + 1) file (read ++ rest) (omega arith) same_here) in
-        let there = first_lines-past count 1 read goes_on.tail whole in
-        let here = first_lines-past count 1 read rest whole in
-        let next : whole.pieces ++ first_lines 1 goes_on.tail ≡ whole.pieces ++ first_lines 1 rest =
-            sym there ∙ ap (first_lines (count + 1)) (sym goes_on.whole) ∙ same_here ∙ here in
-        none goes_on.tail (subst valid goes_on.whole file_valid) (append_cancel_left whole.pieces (first_lines 1 goes_on.tail) (first_lines 1 rest) next))
+    (λ file file_valid same.
+    let same_here : first_lines (count + 1) file ≡ first_lines (count + 1) (read ++ rest) = same ∙ ap (first_lines (count + 1)) is in
+    let goes_on = begins_with_whole_lines count read rest file whole (first_lines-fewer count (count + 1) file (read ++ rest) (omega arith) same_here) in
+    let there = first_lines-past count 1 read goes_on.tail whole in
+    let here = first_lines-past count 1 read rest whole in
+    let next : whole.pieces ++ first_lines 1 goes_on.tail ≡ whole.pieces ++ first_lines 1 rest =
+    sym there ∙ ap (first_lines (count + 1)) (sym goes_on.whole) ∙ same_here ∙ here in
+    none goes_on.tail (subst valid goes_on.whole file_valid) (append_cancel_left whole.pieces (first_lines 1 goes_on.tail) (first_lines 1 rest) next))
 
 goes_on_at_none : (valid : List ℕ → Type 0) (file bytes : List ℕ) → valid file → (fewer : ℕ) → fewer < 1 → GoesOnValid valid bytes fewer
 goes_on_at_none valid file bytes is_valid zero less = record { file = file; is_valid = is_valid; same = refl }
@@ -73,11 +73,11 @@ goes_on_at_none valid file bytes is_valid (suc fewer) less = absurd (omega arith
 pub first_line_is_broken : (valid : List ℕ → Type 0) (file text rest : List ℕ) → IsOneLineForm valid → valid file → HasNoNewline text → (valid (text ++ newline ∷ []) → ⊥) → IsBrokenLine valid (text ++ newline ∷ rest) 1
 first_line_is_broken valid file text rest form is_valid h not_valid = record {
   broken = λ other other_valid same.
-    let one = form.one_line other other_valid in
-    let there = ap (first_lines 1) one.whole ∙ first_lines-line one.text [] one.no_newline in
-    let here = first_lines-line text rest h in
-    let e : other ≡ text ++ newline ∷ [] = (let pieces : one.text ++ newline ∷ [] ≡ text ++ newline ∷ [] = cc in one.whole ∙ pieces) in
-    not_valid (subst valid e other_valid);
+      let one = form.one_line other other_valid in
+      let there = ap (first_lines 1) one.whole ∙ first_lines-line one.text [] one.no_newline in
+      let here = first_lines-line text rest h in
+      let e : other ≡ text ++ newline ∷ [] = (let pieces : one.text ++ newline ∷ [] ≡ text ++ newline ∷ [] = cc in one.whole ∙ pieces) in
+      not_valid (subst valid e other_valid);
   least = goes_on_at_none valid file (text ++ newline ∷ rest) is_valid;
 }
 
@@ -85,9 +85,9 @@ first_line_is_broken valid file text rest form is_valid h not_valid = record {
 pub unfinished_line_is_broken : (valid : List ℕ → Type 0) (file text : List ℕ) → IsOneLineForm valid → valid file → HasNoNewline text → IsBrokenLine valid text 1
 unfinished_line_is_broken valid file text form is_valid h = record {
   broken = λ other other_valid same.
-    let one = form.one_line other other_valid in
-    let there = is_unfinished text other h same in
-    ends_with_newline one.text (subst HasNoNewline (sym there ∙ one.whole) h);
+      let one = form.one_line other other_valid in
+      let there = is_unfinished text other h same in
+      ends_with_newline one.text (subst HasNoNewline (sym there ∙ one.whole) h);
   least = goes_on_at_none valid file text is_valid;
 }
 
@@ -101,7 +101,7 @@ lines-one_line bytes one = rw one.whole (lines-append_line one.text [] one.no_ne
 one_line_ends : (bytes tail : List ℕ) → IsOneLine bytes → IsOneLine (bytes ++ tail) → tail ≡ []
 one_line_ends bytes tail one all =
     let there : lines (bytes ++ tail) ≡ (one.text ++ newline ∷ []) ∷ lines tail =
-        ap (λ bs. lines (bs ++ tail)) one.whole ∙ ap lines (append_assoc one.text (newline ∷ []) tail) ∙ lines-append_line one.text tail one.no_newline in
+    ap (λ bs. lines (bs ++ tail)) one.whole ∙ ap lines (append_assoc one.text (newline ∷ []) tail) ∙ lines-append_line one.text tail one.no_newline in
     let here = lines-one_line (bytes ++ tail) all in
     let none : lines tail ≡ [] = cc in
     sym (concat-lines tail) ∙ ap concat none
@@ -110,11 +110,11 @@ one_line_ends bytes tail one all =
 pub second_line_is_broken : (valid : List ℕ → Type 0) (file rest : List ℕ) → IsOneLineForm valid → valid file → rest ≢ [] → IsBrokenLine valid (file ++ rest) 2
 second_line_is_broken valid file rest form is_valid more =
     next_line_is_broken valid 1 (file ++ rest) file rest [] refl
-      (whole_from_one_line file (form.one_line file is_valid))
-      (subst valid (sym (append-nil file)) is_valid)
-      (λ other other_valid same.
-        let ends = one_line_ends file other (form.one_line file is_valid) (form.one_line (file ++ other) other_valid) in
-        more (is_unfinished [] rest HasNoNewline-nil (sym same ∙ ap (first_lines 1) ends)))
+    (whole_from_one_line file (form.one_line file is_valid))
+    (subst valid (sym (append-nil file)) is_valid)
+    (λ other other_valid same.
+    let ends = one_line_ends file other (form.one_line file is_valid) (form.one_line (file ++ other) other_valid) in
+    more (is_unfinished [] rest HasNoNewline-nil (sym same ∙ ap (first_lines 1) ends)))
 
 after_valid_line : (valid : List ℕ → Type 0) (text rest bytes : List ℕ) → IsOneLineForm valid → valid (text ++ newline ∷ []) → bytes ≡ text ++ newline ∷ rest → valid bytes ⊎ (IsBrokenLine valid bytes 1 ⊎ IsBrokenLine valid bytes 2)
 after_valid_line valid text [] bytes form is_valid is = inl (subst valid (sym is) is_valid)
@@ -126,11 +126,11 @@ after_valid_line valid text (byte ∷ rest) bytes form is_valid is =
 pub one_line_answer : (valid : List ℕ → Type 0) (file bytes : List ℕ) → IsOneLineForm valid → valid file → ((other : List ℕ) → valid other ⊎ (valid other → ⊥)) → valid bytes ⊎ (IsBrokenLine valid bytes 1 ⊎ IsBrokenLine valid bytes 2)
 one_line_answer valid file bytes form is_valid test =
     elim (cut_at_newline bytes) [
-      inl none ↦ inr (inl (unfinished_line_is_broken valid file bytes form is_valid none))
-    | inr cut ↦
-      elim (test (cut.text ++ newline ∷ [])) [
-        inr not_valid ↦
-          inr (inl (subst (λ bs. IsBrokenLine valid bs 1) (sym cut.whole) (first_line_is_broken valid file cut.text cut.rest form is_valid cut.no_newline not_valid)))
-      | inl line_valid ↦ after_valid_line valid cut.text cut.rest bytes form line_valid cut.whole
-      ]
+      | inl none ↦ inr (inl (unfinished_line_is_broken valid file bytes form is_valid none))
+      | inr cut ↦
+          elim (test (cut.text ++ newline ∷ [])) [
+            | inr not_valid ↦
+                inr (inl (subst (λ bs. IsBrokenLine valid bs 1) (sym cut.whole) (first_line_is_broken valid file cut.text cut.rest form is_valid cut.no_newline not_valid)))
+            | inl line_valid ↦ after_valid_line valid cut.text cut.rest bytes form line_valid cut.whole
+          ]
     ]

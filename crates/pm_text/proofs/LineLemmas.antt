@@ -1,10 +1,9 @@
 -- How a file falls into lines, piece by piece from the front.
-use Rattle.std.proofs.Common.{◌≡◌, ◌≢◌, ℕ, zero, suc, ◌+◌, ◌<◌, ◌≤◌, Bool, true, false, cond, eqb, List, [], ◌∷◌, ◌++◌, length, take, drop, refl, sym, ap, ◌∙◌, subst, ◌⊎◌, inl, inr, append_assoc, length-append, arith}
-use Rattle.std.specs.Prelude.{All}
+use Rattle.std.proofs.Common.{◌≡◌, ◌≢◌, ℕ, zero, suc, ◌+◌, ◌≤◌, false, eqb, List, [], ◌∷◌, ◌++◌, length, take, drop, refl, sym, ap, ◌∙◌, subst, ◌⊎◌, inl, inr, append_assoc, length-append, arith}
 use Rattle.std.specs.List.{onto_first, concat}
 use Rattle.std.proofs.lemmas.Bool.{ne_eqb, eqb-true, cases_Bool, eqb-false}
-use Rattle.std.proofs.lemmas.List.{append-nil, append_cancel_left, take-append-le, take-append-drop}
-use Rattle.std.proofs.Math.Seq.{take-append_seam, take-append-add, drop-append_seam}
+use Rattle.std.proofs.lemmas.List.{append-nil, take-append-le, take-append-drop}
+use Rattle.std.proofs.Math.Seq.{take-append_seam, take-append-add}
 use Rattle.std.proofs.lemmas.List.Folds.{concat-append}
 use Rattle.std.proofs.lemmas.List.Elements.{All-nil, All-head, All-tail, All-cons, All-append}
 use Rattle.pm_text.specs.Broken.{newline, HasNoNewline, lines, lines_and_end, first_lines}
@@ -51,8 +50,8 @@ pub concat-lines : (bytes : List ℕ) → concat (lines bytes) ≡ bytes
 concat-lines [] = refl
 concat-lines (byte ∷ bytes) =
     elim (cases_Bool (eqb byte 10)) [
-      inl e ↦ rw (e, concat-lines bytes) refl
-    | inr e ↦ rw (e, concat-onto_first, concat-lines bytes) refl
+      | inl e ↦ rw (e, concat-lines bytes) refl
+      | inr e ↦ rw (e, concat-onto_first, concat-lines bytes) refl
     ]
 
 pub concat-lines_and_end : (bytes : List ℕ) → concat (lines_and_end bytes) ≡ bytes
@@ -72,7 +71,7 @@ one_more_whole_line count bytes text whole h = record {
   pieces = whole.pieces ++ (text ++ newline ∷ []) ∷ [];
   length_pieces = rw (length-append, whole.length_pieces) refl;
   in_front = λ rest.
-    rw (append_assoc bytes (text ++ newline ∷ []) rest, append_assoc text (newline ∷ []) rest, whole.in_front (text ++ newline ∷ rest), lines-append_line text rest h, append_assoc whole.pieces ((text ++ newline ∷ []) ∷ []) (lines rest)) refl;
+      rw (append_assoc bytes (text ++ newline ∷ []) rest, append_assoc text (newline ∷ []) rest, whole.in_front (text ++ newline ∷ rest), lines-append_line text rest h, append_assoc whole.pieces ((text ++ newline ∷ []) ∷ []) (lines rest)) refl;
 }
 
 pub one_whole_line : (text : List ℕ) → HasNoNewline text → IsWholeLines 1 (text ++ newline ∷ [])
@@ -95,7 +94,7 @@ first_lines-past count more bytes rest whole =
 
 pub concat-pieces : (count : ℕ) (bytes : List ℕ) → (whole : IsWholeLines count bytes) → concat whole.pieces ≡ bytes
 concat-pieces count bytes whole =
-    let front = rw (append-nil, append-nil) at (whole.in_front []) in
+    let front = ap lines (sym (append-nil bytes)) ∙ whole.in_front [] ∙ append-nil whole.pieces in
     sym (ap concat front) ∙ concat-lines bytes
 
 take-take : (n m : ℕ) (l : List (List ℕ)) → n ≤ m → take n (take m l) ≡ take n l
@@ -119,9 +118,9 @@ pub begins_with_whole_lines : (count : ℕ) (bytes rest file : List ℕ) → IsW
 begins_with_whole_lines count bytes rest file whole same =
     let all = lines_and_end file in
     let front : take count all ≡ whole.pieces =
-        same ∙ (rw (lines_and_end-whole count bytes rest whole, ← whole.length_pieces, take-append_seam) refl) in
+    same ∙ (rw (lines_and_end-whole count bytes rest whole, ← whole.length_pieces, take-append_seam) refl) in
     let joined : file ≡ concat (take count all ++ drop count all) =
-        rw (take-append-drop) (sym (concat-lines_and_end file)) in
+    rw (take-append-drop) (sym (concat-lines_and_end file)) in
     record {
       tail = concat (drop count all);
       whole = joined ∙ concat-append (take count all) (drop count all) ∙ ap (λ ls. concat ls ++ concat (drop count all)) front ∙ ap (λ bs. bs ++ concat (drop count all)) (concat-pieces count bytes whole);
@@ -151,12 +150,12 @@ pub cut_at_newline : (bytes : List ℕ) → HasNoNewline bytes ⊎ CutsAtNewline
 cut_at_newline [] = inl HasNoNewline-nil
 cut_at_newline (byte ∷ bytes) =
     elim (cases_Bool (eqb byte 10)) [
-      inl e ↦ inr (record { text = []; rest = bytes; no_newline = HasNoNewline-nil; whole = ap (λ b. b ∷ bytes) (eqb-true byte 10 e) })
-    | inr e ↦
-      elim (cut_at_newline bytes) [
-        inl none ↦ inl (HasNoNewline-cons byte bytes (eqb-false byte 10 e) none)
-      | inr cut ↦ inr (record { text = byte ∷ cut.text; rest = cut.rest; no_newline = HasNoNewline-cons byte cut.text (eqb-false byte 10 e) cut.no_newline; whole = ap (λ bs. byte ∷ bs) cut.whole })
-      ]
+      | inl e ↦ inr (record { text = []; rest = bytes; no_newline = HasNoNewline-nil; whole = ap (λ b. b ∷ bytes) (eqb-true byte 10 e) })
+      | inr e ↦
+          elim (cut_at_newline bytes) [
+            | inl none ↦ inl (HasNoNewline-cons byte bytes (eqb-false byte 10 e) none)
+            | inr cut ↦ inr (record { text = byte ∷ cut.text; rest = cut.rest; no_newline = HasNoNewline-cons byte cut.text (eqb-false byte 10 e) cut.no_newline; whole = ap (λ bs. byte ∷ bs) cut.whole })
+          ]
     ]
 
 -- a file whose first piece is a given line begins with that line
@@ -168,13 +167,13 @@ begins_with_line text rest file h same =
 pub is_unfinished : (text file : List ℕ) → HasNoNewline text → first_lines 1 file ≡ first_lines 1 text → file ≡ text
 is_unfinished text file h same =
     elim (cut_at_newline file) [
-      inl none ↦
-        let there = first_lines-unfinished file none in
-        let here = first_lines-unfinished text h in
-        cc
-    | inr cut ↦
-        let there = ap (first_lines 1) cut.whole ∙ first_lines-line cut.text cut.rest cut.no_newline in
-        let here = first_lines-unfinished text h in
-        let e : text ≡ cut.text ++ newline ∷ [] = cc in
-        absurd (ends_with_newline cut.text (subst HasNoNewline e h))
+      | inl none ↦
+          let there = first_lines-unfinished file none in
+          let here = first_lines-unfinished text h in
+          cc
+      | inr cut ↦
+          let there = ap (first_lines 1) cut.whole ∙ first_lines-line cut.text cut.rest cut.no_newline in
+          let here = first_lines-unfinished text h in
+          let e : text ≡ cut.text ++ newline ∷ [] = cc in
+          absurd (ends_with_newline cut.text (subst HasNoNewline e h))
     ]

@@ -1,16 +1,16 @@
 -- Each number has one spelling, and a word spells at most one number.
-use Rattle.std.proofs.Common.{◌≡◌, ◌≢◌, ℕ, ◌+◌, ◌*◌, ◌-◌, ◌^◌, ◌<◌, ◌≤◌, List, [], ◌∷◌, length, take, get_or, refl, sym, ap, ◌∙◌, subst, ◌⊎◌, inl, inr, arith}
-use Rattle.std.specs.Prelude.{decimal, Option, Some, None, MatchOption}
-use Rattle.std.specs.Str.Parse.{IsNumeral, AllDigits, digits_value}
+use Rattle.std.proofs.Common.{◌≡◌, ℕ, ◌+◌, ◌*◌, ◌-◌, ◌^◌, ◌<◌, ◌≤◌, List, length, take, get_or, sym, ap, ◌∙◌, subst, inl, inr, arith}
+use Rattle.std.specs.Prelude.{decimal}
+use Rattle.std.specs.Str.Parse.{AllDigits, digits_value}
 use Rattle.std.specs.Char.{digit_value}
 use Rattle.std.specs.Int.{IsInRange}
 use Rattle.std.proofs.lemmas.Bool.{cases_eq}
 use Rattle.std.proofs.lemmas.Bool.Decides.{nat_tests}
 use Rattle.std.proofs.Math.Seq.{take-length}
 use Rattle.std.proofs.lemmas.Fmt.{decimal_is_IsNumeral, first_decimal, decimal_digit, decimal-digits_value}
-use Rattle.std.proofs.lemmas.Str.Parse.{IsNumeralModel, numerals_by_value, tells_digits, digit_at, digits_value-take-le}
+use Rattle.std.proofs.lemmas.Str.Parse.{IsNumeralModel, numerals_by_value, tells_digits, digits_value-take-le}
 use Rattle.std.proofs.lemmas.Int.Digits.{digits_value_more, digits_more}
-use Rattle.pm_text.specs.Numeral.{IsNumber}
+use Rattle.pm_text.specs.Numeral.{IsNumber, HasOneSpelling}
 
 -- a word spells at most one number
 pub number_is_unique : (word : List ℕ) (one other : ℕ) → IsNumber word one → IsNumber word other → one ≡ other
@@ -23,10 +23,10 @@ decimal_is_number number fits =
     record {
       numeral = numeral.0;
       no_leading_zero = λ zero_first.
-        elim (cases_eq number 0) [
-          inl none ↦ ap (λ n. length (decimal n)) none ∙ ap length (decimal_digit 0 (omega arith))
-        | inr some ↦ (let above = first_decimal number (omega arith) fits in absurd (omega arith))
-        ];
+          elim (cases_eq number 0) [
+            | inl none ↦ ap (λ n. length (decimal n)) none ∙ ap length (decimal_digit 0 (omega arith))
+            | inr some ↦ (let above = first_decimal number (omega arith) fits in absurd (omega arith))
+          ];
       value = numeral.1;
       fits = fits;
     }
@@ -70,3 +70,9 @@ pub all_digits_read : (word : List ℕ) (count value : ℕ) → length word ≡ 
 all_digits_read word count value all read =
     let e : take count word ≡ word = rw (← all) (take-length word) in
     (rw e at read.digits, rw e at read.value_is)
+
+pub has_one_spelling : HasOneSpelling
+has_one_spelling word number = (
+  λ is. (is.fits, sym (number_is_decimal word number is)),
+  λ h. subst (λ bytes. IsNumber bytes number) (sym h.1) (decimal_is_number number h.0),
+)

@@ -1,7 +1,7 @@
 -- One line after another is given, and what was given is whole lines as long as each line ended.
-use Rattle.std.proofs.Common.{◌≡◌, ◌≢◌, ℕ, suc, ◌+◌, ◌-◌, ◌<◌, ◌≤◌, Bool, true, false, List, [], ◌∷◌, ◌++◌, length, take, drop, get_or, refl, sym, ap, ◌∙◌, subst, append_assoc, add-one, arith}
+use Rattle.std.proofs.Common.{◌≡◌, ◌≢◌, ℕ, ◌+◌, ◌<◌, ◌≤◌, Bool, true, false, List, [], ◌∷◌, ◌++◌, length, take, drop, get_or, refl, sym, ap, ◌∙◌, subst, add-one, arith}
 use Rattle.std.proofs.lemmas.Bool.{false≢true}
-use Rattle.std.proofs.lemmas.List.{append-nil, take-append-drop, get_or-take, take_more, take_all, length-take-le, length-drop, drop-drop}
+use Rattle.std.proofs.lemmas.List.{append-nil, take-append-drop, get_or-take, take_more, length-take-le, length-drop, drop-drop}
 use Rattle.std.proofs.lemmas.List.Elements.{All-from_get_or}
 use Rattle.std.proofs.Math.Seq.{drop-cons, take-add}
 use Rattle.std.proofs.Math.ListN.{drop_of_length-le}
@@ -13,7 +13,7 @@ use Rattle.pm_text.proofs.LineLemmas.{IsWholeLines, one_more_whole_line, lines_a
 pub HasNoNewline-take : (bytes : List ℕ) (place : ℕ) → place ≤ length bytes → ((k : ℕ) → k < place → get_or bytes k 0 ≢ newline) → HasNoNewline (take place bytes)
 HasNoNewline-take bytes place within none = record {
   each = All-from_get_or (λ byte. byte ≢ newline) (take place bytes) 0
-    (λ k less.
+      (λ k less.
       let below : k < place = omega (arith, length-take-le place bytes within) in
       rw (get_or-take place bytes k 0 below) (none k below));
 }
@@ -30,13 +30,13 @@ pub ended_line : (bytes : List ℕ) (given place : ℕ) → given ≤ length byt
 ended_line bytes given place within less none found = record {
   no_newline = HasNoNewline-take (drop given bytes) place (omega arith) none;
   left =
-    cut_around (drop given bytes) place less
-    ∙ ap (λ byte. take place (drop given bytes) ++ byte ∷ drop (place + 1) (drop given bytes)) found
-    ∙ ap (λ rest. take place (drop given bytes) ++ newline ∷ rest) (drop-drop (place + 1) given bytes ∙ ap (λ n. drop n bytes) (regrouped given place));
+      cut_around (drop given bytes) place less
+      ∙ ap (λ byte. take place (drop given bytes) ++ byte ∷ drop (place + 1) (drop given bytes)) found
+      ∙ ap (λ rest. take place (drop given bytes) ++ newline ∷ rest) (drop-drop (place + 1) given bytes ∙ ap (λ n. drop n bytes) (regrouped given place));
   now_given =
-    ap (λ n. take n bytes) (sym (regrouped given place))
-    ∙ take-add given (place + 1) bytes
-    ∙ ap (λ piece. take given bytes ++ piece) (take_more (drop given bytes) place 0 less ∙ ap (λ byte. take place (drop given bytes) ++ byte ∷ []) found);
+      ap (λ n. take n bytes) (sym (regrouped given place))
+      ∙ take-add given (place + 1) bytes
+      ∙ ap (λ piece. take given bytes ++ piece) (take_more (drop given bytes) place 0 less ∙ ap (λ byte. take place (drop given bytes) ++ byte ∷ []) found);
   place = omega (arith, length-take-le (given + place + 1) bytes (omega (arith, length-drop given bytes)));
   unfinished = λ e. absurd (false≢true (sym e));
 }
@@ -46,11 +46,11 @@ pub unfinished_line : (bytes : List ℕ) (given place : ℕ) → given ≤ lengt
 unfinished_line bytes given place within all some none = record {
   no_newline = HasNoNewline-take (drop given bytes) place (omega arith) none;
   left =
-    sym (take-append-drop place (drop given bytes))
-    ∙ ap (λ rest. take place (drop given bytes) ++ rest) (drop-drop place given bytes);
+      sym (take-append-drop place (drop given bytes))
+      ∙ ap (λ rest. take place (drop given bytes) ++ rest) (drop-drop place given bytes);
   now_given =
-    take-add given place bytes
-    ∙ ap (λ piece. take given bytes ++ piece) (sym (append-nil (take place (drop given bytes))));
+      take-add given place bytes
+      ∙ ap (λ piece. take given bytes ++ piece) (sym (append-nil (take place (drop given bytes))));
   place = omega (arith, length-take-le (given + place) bytes (omega (arith, length-drop given bytes)));
   unfinished = λ _. (
     λ none_taken. some (omega (arith, ap length none_taken, length-take-le place (drop given bytes) (omega arith))),

@@ -1,15 +1,12 @@
 -- How a line falls into words.
-use Rattle.std.proofs.Common.{◌≡◌, ◌≢◌, ℕ, ◌+◌, ◌<◌, ◌≤◌, Bool, true, false, eqb, List, [], ◌∷◌, ◌++◌, length, take, drop, get_or, refl, sym, ap, ◌∙◌, subst, ◌⊎◌, inl, inr, add-one, arith}
+use Rattle.std.proofs.Common.{◌≡◌, ◌≢◌, ℕ, ◌+◌, ◌<◌, ◌≤◌, false, eqb, List, [], ◌∷◌, ◌++◌, length, take, drop, get_or, refl, ap, ◌∙◌, subst, inl, inr, arith}
 use Rattle.std.specs.Prelude.{All}
 use Rattle.std.specs.List.{slice_split, onto_first, join_with_byte, AllByRecursion}
-use Rattle.std.specs.Int.{IsInRange}
-use Rattle.std.specs.Str.Parse.{AllDigits}
 use Rattle.std.proofs.lemmas.Bool.{ne_eqb, cases_Bool, eqb-false}
-use Rattle.std.proofs.lemmas.List.{take-append-drop, get_or-take, length-take-le, take_all}
+use Rattle.std.proofs.lemmas.List.{get_or-take, length-take-le, take_all}
 use Rattle.std.proofs.lemmas.List.Elements.{All-nil, All-head, All-tail, All-cons, All-append, All-weaker, All-from_get_or, All-from_recursion}
 use Rattle.std.proofs.lemmas.List.Splits.{slice_split_at, slice_split_none, join_with_byte-slice_split}
 use Rattle.std.proofs.lemmas.Str.Parse.{digit_at}
-use Rattle.std.proofs.Math.Seq.{drop-cons}
 use Rattle.pm_text.specs.Broken.{newline, HasNoNewline}
 use Rattle.pm_text.specs.Numeral.{IsNumber}
 use Rattle.pm_text.specs.Spaced.{is_space, words, HasNoSpace}
@@ -28,7 +25,7 @@ HasNoSpace-append front back f b = record { each = All-append (λ b. b ≢ 32) f
 pub HasNoSpace-take : (bytes : List ℕ) (place : ℕ) → place ≤ length bytes → ((k : ℕ) → k < place → get_or bytes k 0 ≢ 32) → HasNoSpace (take place bytes)
 HasNoSpace-take bytes place within none = record {
   each = All-from_get_or (λ byte. byte ≢ 32) (take place bytes) 0
-    (λ k less.
+      (λ k less.
       let below : k < place = omega (arith, length-take-le place bytes within) in
       rw (get_or-take place bytes k 0 below) (none k below));
 }
@@ -75,8 +72,8 @@ no_space_split : (text : List ℕ) → AllByRecursion HasNoSpace (slice_split is
 no_space_split [] = (HasNoSpace-nil, tt)
 no_space_split (byte ∷ text) =
     elim (cases_Bool (eqb byte 32)) [
-      inl e ↦ rw e (HasNoSpace-nil, no_space_split text)
-    | inr e ↦ rw e (no_space_onto byte (slice_split is_space text) (eqb-false byte 32 e) (no_space_split text))
+      | inl e ↦ rw e (HasNoSpace-nil, no_space_split text)
+      | inr e ↦ rw e (no_space_onto byte (slice_split is_space text) (eqb-false byte 32 e) (no_space_split text))
     ]
 
 -- no word has a space

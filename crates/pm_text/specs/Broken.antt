@@ -46,3 +46,12 @@ pub record IsOneLine (bytes : List ℕ) : Type 0 where
 -- a form each of whose valid files is one line
 pub record IsOneLineForm (valid : List ℕ → Type 0) : Type 0 where
   pub one_line : (file : List ℕ) → valid file → IsOneLine file
+
+-- a valid file has no broken line
+abbrev pub ValidHasNoBrokenLine : (List ℕ → Type 0) → Type 0
+ValidHasNoBrokenLine valid = (file : List ℕ) (line : ℕ) → valid file → ¬ IsBrokenLine valid file line
+
+-- a file has at most one broken line
+abbrev pub BrokenLineIsUnique : (List ℕ → Type 0) → Type 0
+BrokenLineIsUnique valid =
+    (bytes : List ℕ) (one other : ℕ) → IsBrokenLine valid bytes one → IsBrokenLine valid bytes other → one ≡ other

@@ -1,11 +1,15 @@
 -- A text that is read line by line: what was given out, and what is left.
-use Rattle.std.specs.Prelude.{◌≡◌, ◌≢◌, ℕ, Bool, true, false, List, [], ◌∷◌, ◌++◌, length, take, drop, if◌then◌else◌}
+use Rattle.std.specs.Prelude.{◌≡◌, ◌≢◌, ℕ, Bool, false, List, [], ◌∷◌, ◌++◌, length, take, drop, if◌then◌else◌}
 use Rattle.pm_text.specs.Broken.{newline, HasNoNewline}
 
 -- the bytes given so far, and the bytes that are left
 pub record Reading : Type 0 where
   pub given : List ℕ
   pub rest : List ℕ
+
+-- nothing was given yet
+abbrev pub reading_of : List ℕ → Reading
+reading_of bytes = record { given = []; rest = bytes }
 
 -- `bytes` of which the first `count` were given
 abbrev pub reading_at : List ℕ → ℕ → Reading

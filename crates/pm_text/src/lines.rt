@@ -1,6 +1,6 @@
 //! Lines of a text.
 ghost use Rattle.std.specs.Prelude.{◌≡◌, ℕ, ◌++◌, ◌≤◌, ◌↔◌, [], length, IsNone, MatchOption};
-ghost use Rattle.pm_text.specs.Reading.{Reading, reading_at, IsNextLine};
+ghost use Rattle.pm_text.specs.Reading.{Reading, reading_of, reading_at, IsNextLine};
 
 use crate::find::find;
 use std::marker::Model;
@@ -34,7 +34,7 @@ impl<'a> Model for Lines<'a> {
 impl<'a> Lines<'a> {
     /// The lines of `bytes`.
     pub fn new(bytes: &'a [u8]) -> Lines<'a>
-        ensures { result ≡ reading_at bytes.now 0 }
+        ensures { result ≡ reading_of bytes.now }
     {
         Lines { bytes, given: 0 }
     }

@@ -2,7 +2,7 @@
 ghost use Rattle.std.specs.Prelude.{◌≡◌, ℕ, ◌<◌, ◌^◌, ◌++◌, ◌↔◌, decimal, MatchOption, is_ok, if◌then◌else◌};
 ghost use Rattle.std.specs.Option.{SomeIff};
 ghost use Rattle.std.specs.Str.Parse.{AllDigits, digits_value};
-ghost use Rattle.pm_text.specs.Numeral.{IsNumber};
+ghost use Rattle.pm_text.specs.Numeral.{IsNumber, HasOneSpelling};
 
 use std::alloc::{AllocError, Global};
 
@@ -20,16 +20,15 @@ pub fn number(word: &[u8]) -> Option<u64>
 
 // The number that decimal digits write, where there is no other byte and the number fits.
 fn read_digits(word: &[u8]) -> Option<u64>
-    ensures { SomeIff result ((AllDigits 10 word.now) × (digits_value 10 word.now < 2 ^ 64)) (digits_value 10 word.now) }
+    ensures { let all = digits_value 10 word.now in
+        SomeIff result (AllDigits 10 word.now × (all < 2 ^ 64)) all }
 {
     let mut value: u64 = 0;
     for byte in word {
         if !byte.is_ascii_digit() {
             return None;
         }
-        value = value
-            .checked_mul(10)?
-            .checked_add(u64::from(*byte - b'0'))?;
+        value = value.checked_mul(10)?.checked_add(u64::from(*byte - b'0'))?;
     }
     Some(value)
 }
@@ -50,3 +49,9 @@ pub fn put_number(alloc: Global, value: u64, text: &mut Vec<u8>) -> Result<(), A
     let spelling = value.to_string(alloc)?;
     text.extend_from_slice(spelling.as_bytes())
 }
+
+/// A law: what [`put_number`] appends is the one word that spells the number, so [`number`] reads it
+/// again, and reads nothing else as that number.
+pub fn number_has_one_spelling()
+    ensures { HasOneSpelling }
+{}
