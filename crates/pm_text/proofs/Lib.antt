@@ -1,0 +1,5 @@
+pub mod LineLemmas
+pub mod BrokenLemmas
+pub mod NumeralLemmas
+pub mod ReadingLemmas
+pub mod WordLemmas
