@@ -1,8 +1,6 @@
 pub mod CanonicalNames
-pub mod Carried
 pub mod CarriedMeeting
 pub mod CarriedStructure
-pub mod Reached
 pub mod SameMaps
 pub mod UniqueCanonical
 pub mod UniqueMeeting
