@@ -25,9 +25,12 @@ pub struct ReaderSource<R> {
 }
 
 impl<R: Read> ReaderSource<R> {
+    ghost use Rattle.pm_io.specs.Streams.{read_errors, reader_of};
+
     /// A source with no error so far.
     pub fn new(reader: R) -> Self
-        ensures { result ≡ record { reader = reader; errors = 0 } }
+        ensures reader { reader_of result ≡ reader }
+        ensures errors { read_errors result ≡ 0 }
     {
         ReaderSource { reader, errors: 0 }
     }
@@ -35,22 +38,22 @@ impl<R: Read> ReaderSource<R> {
 
 impl<R: Read> Source for ReaderSource<R> {
     ghost use Rattle.pm_io.specs.Faults.{capped-le};
-    ghost use Rattle.pm_io.specs.Streams.{reader_of};
+    ghost use Rattle.pm_io.specs.Streams.{read_errors, reader_of};
 
     ghost left = { λ _. None };
 
-    ghost faults = { λ s. capped s.errors };
+    ghost faults = { λ s. capped (read_errors s) };
 
-    ghost bounded = { λ s. capped-le s.errors };
+    ghost bounded = { λ s. capped-le (read_errors s) };
 
     fn read(&mut self, buf: &mut [u8]) -> Result<usize, Failed>
         requires { 0 < length buf.old }
 
         // as every source that tells no bytes
         ensures count { IfOk result (λ k. k ≤ length buf.new) }
-        ensures calm { OnOk result (capped self.new.errors ≡ capped self.old.errors) }
-        ensures cause { OnErr result (FaultsRose (capped self.old.errors) (capped self.new.errors)) }
-        ensures later { capped self.old.errors ≤ capped self.new.errors }
+        ensures calm { OnOk result (capped (read_errors self.new) ≡ capped (read_errors self.old)) }
+        ensures cause { OnErr result (FaultsRose (capped (read_errors self.old)) (capped (read_errors self.new))) }
+        ensures later { capped (read_errors self.old) ≤ capped (read_errors self.new) }
 
         // Where the reader knows its bytes, they are what is read.
         ensures consumed { ReadConsumes (R.remaining (reader_of self.old)) (R.remaining (reader_of self.new)) result buf.new }
@@ -90,9 +93,12 @@ fn write_whole<W: Write>(writer: &mut W, piece: &[u8]) -> bool
 }
 
 impl<W: Write> WriterSink<W> {
+    ghost use Rattle.pm_io.specs.Streams.{write_errors, writer_of};
+
     /// A sink with no error so far.
     pub fn new(writer: W) -> Self
-        ensures { result ≡ record { writer = writer; errors = 0 } }
+        ensures writer { writer_of result ≡ writer }
+        ensures errors { write_errors result ≡ 0 }
     {
         WriterSink { writer, errors: 0 }
     }
@@ -100,19 +106,19 @@ impl<W: Write> WriterSink<W> {
 
 impl<W: Write> Sink for WriterSink<W> {
     ghost use Rattle.pm_io.specs.Faults.{capped-le};
-    ghost use Rattle.pm_io.specs.Streams.{writer_of};
+    ghost use Rattle.pm_io.specs.Streams.{write_errors, writer_of};
 
     ghost holds = { λ _. None };
 
-    ghost faults = { λ s. capped s.errors };
+    ghost faults = { λ s. capped (write_errors s) };
 
-    ghost bounded = { λ s. capped-le s.errors };
+    ghost bounded = { λ s. capped-le (write_errors s) };
 
     fn write(&mut self, piece: &[u8]) -> Result<(), Failed>
         // as every sink that tells no bytes
-        ensures calm { OnOk result (capped self.new.errors ≡ capped self.old.errors) }
-        ensures cause { OnErr result (FaultsRose (capped self.old.errors) (capped self.new.errors)) }
-        ensures later { capped self.old.errors ≤ capped self.new.errors }
+        ensures calm { OnOk result (capped (write_errors self.new) ≡ capped (write_errors self.old)) }
+        ensures cause { OnErr result (FaultsRose (capped (write_errors self.old)) (capped (write_errors self.new))) }
+        ensures later { capped (write_errors self.old) ≤ capped (write_errors self.new) }
 
         // Where the writer knows its bytes, the piece is added, or a front of it.
         ensures wrote { OnOk result (Appends (W.contents (writer_of self.old)) (W.contents (writer_of self.new)) piece.now) }
@@ -127,9 +133,9 @@ impl<W: Write> Sink for WriterSink<W> {
 
     fn flush(&mut self) -> Result<(), Failed>
         // as every sink that tells no bytes
-        ensures calm { OnOk result (capped self.new.errors ≡ capped self.old.errors) }
-        ensures cause { OnErr result (FaultsRose (capped self.old.errors) (capped self.new.errors)) }
-        ensures later { capped self.old.errors ≤ capped self.new.errors }
+        ensures calm { OnOk result (capped (write_errors self.new) ≡ capped (write_errors self.old)) }
+        ensures cause { OnErr result (FaultsRose (capped (write_errors self.old)) (capped (write_errors self.new))) }
+        ensures later { capped (write_errors self.old) ≤ capped (write_errors self.new) }
 
         // The bytes that the writer knows stay.
         ensures kept { Keeps (W.contents (writer_of self.old)) (W.contents (writer_of self.new)) }
