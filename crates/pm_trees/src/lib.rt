@@ -3,6 +3,7 @@
 
 mod faults;
 mod letters;
+mod nodes;
 mod tree;
 
 pub use letters::{BUD, CLOSE, LEAF, OPEN};
