@@ -1,6 +1,9 @@
+pub mod Ahead
 pub mod Balance
-pub mod Reading
+pub mod Least
 pub mod Levels
 pub mod Own
+pub mod Reading
 pub mod Stack
 pub mod Tally
+pub mod Walk

@@ -3,7 +3,10 @@
 
 mod faults;
 mod letters;
+mod nodes;
+mod read;
 mod tree;
 
 pub use letters::{BUD, CLOSE, LEAF, OPEN};
+pub use read::read_tree;
 pub use tree::{Tree, TreeRefusal};
