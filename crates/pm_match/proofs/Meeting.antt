@@ -190,13 +190,44 @@ meeting_of_pair places p q h =
 record IsHighFrom (places : List ℕ) (j d : ℕ) : Type 0 where
   high : (m : ℕ) → d ≤ m → m ≤ j → leaves places m + buds places j ≤ buds places m + leaves places j
 
--- where the counts rise to a leaf, a bud meets it
-met_from : (places : List ℕ) (j k n : ℕ) → letter places j ≡ LEAF → k + n ≤ j → IsHighFrom places j (k + n) → buds places k + leaves places j < buds places j + leaves places k → (p : ℕ) × (k ≤ p) × IsMeeting places p j
-met_from places j k zero leaf near h rise = absurd (omega (arith, h.high k (omega arith) (omega arith)))
-met_from places j k (suc n) leaf near h rise = elim (cases_lt (buds places (k + n) + leaves places j) (leaves places (k + n) + buds places j)) [
-      inr up ↦ met_from places j k n leaf (omega arith) ? rise
-    | inl down ↦ ?
+-- a step up from below the place j is a bud
+rise_is_bud : (places : List ℕ) (j d : ℕ) → letter places j ≡ LEAF → d < j → buds places d + leaves places j < leaves places d + buds places j → IsHighFrom places j (suc d) → letter places d ≡ BUD
+rise_is_bud places j d leaf before down h =
+    let first = h.high (suc d) (omega arith) (omega arith) in
+    let j_in = leaf_in_turns places j leaf in
+    elim (cases_eq (letter places d) BUD) [
+      inl e ↦ e
+    | inr no_bud ↦ elim (cases_eq (letter places d) LEAF) [
+        inl e ↦ let step = at_leaf places d e in absurd (omega (arith, step.more_buds, step.more_leaves))
+      | inr no_leaf ↦ let step = at_other places d (omega arith) no_bud no_leaf in absurd (omega (arith, step.more_buds, step.more_leaves))
+      ]
     ]
 
-pub met_after : (places : List ℕ) (j k : ℕ) → letter places j ≡ LEAF → k ≤ j → buds places k + leaves places j < buds places j + leaves places k → (p : ℕ) × (k ≤ p) × IsMeeting places p j
-met_after places j k leaf near rise = ?
+rise_meets : (places : List ℕ) (j d : ℕ) → letter places j ≡ LEAF → d < j → buds places d + leaves places j < leaves places d + buds places j → IsHighFrom places j (suc d) → IsMeeting places d j
+rise_meets places j d leaf before down h =
+    let bud : letter places d ≡ BUD = rise_is_bud places j d leaf before down h in
+    let step = at_bud places d bud in
+    let first = h.high (suc d) (omega arith) (omega arith) in
+    let level : buds places j + leaves places (suc d) ≡ leaves places j + buds places (suc d) = omega (arith, step.more_buds, step.more_leaves) in
+    record {
+      bud = bud;
+      leaf = leaf;
+      before = before;
+      level = level;
+      above = (λ m low near. let high = h.high m low near in omega arith)
+    }
+
+-- where the counts rise to a leaf, a bud meets it
+met_from : (places : List ℕ) (j k n : ℕ) → letter places j ≡ LEAF → k + n ≤ j → IsHighFrom places j (k + n) → buds places k + leaves places j < leaves places k + buds places j → (p : ℕ) × (k ≤ p) × IsMeeting places p j
+met_from places j k zero leaf near h rise = absurd (omega (arith, h.high k (omega arith) (omega arith)))
+met_from places j k (suc n) leaf near h rise = elim (cases_lt (buds places (k + n) + leaves places j) (leaves places (k + n) + buds places j)) [
+      inr up ↦ met_from places j k n leaf (omega arith)
+        (record { high = λ m low late. elim (cases_eq m (k + n)) [ inl e ↦ subst (λ (i : ℕ). leaves places i + buds places j ≤ buds places i + leaves places j) (sym e) up | inr ne ↦ h.high m (omega arith) late ] }) rise
+    | inl down ↦ (k + n, omega arith, rise_meets places j (k + n) leaf (omega arith) down (record { high = λ m low late. h.high m (omega arith) late }))
+    ]
+
+pub met_after : (places : List ℕ) (j k : ℕ) → letter places j ≡ LEAF → k ≤ j → buds places k + leaves places j < leaves places k + buds places j → (p : ℕ) × (k ≤ p) × IsMeeting places p j
+met_after places j k leaf near rise =
+    let far : k + (j - k) ≡ j = omega arith in
+    met_from places j k (j - k) leaf (omega arith)
+    (record { high = λ m low late. let same : m ≡ j = omega arith in subst (λ (i : ℕ). leaves places i + buds places j ≤ buds places i + leaves places j) (sym same) (omega arith) }) rise
