@@ -1,2 +1,4 @@
 //! The pairs of buds and leaves of a blossoming tree.
 #![tactic(auto)]
+
+mod balance;
