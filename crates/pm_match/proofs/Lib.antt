@@ -1,3 +1,4 @@
 mod Counts
 mod Meeting
 mod Rise
+mod Reading
