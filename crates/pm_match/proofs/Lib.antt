@@ -2,3 +2,4 @@ mod Counts
 mod Meeting
 mod Rise
 mod Reading
+mod Turns

@@ -73,11 +73,11 @@ pair_second places p q s h p_in q_in =
     (ap (λ i. i % length places) far ∙ add-mod_left (length places) q ∙ mod-eq_of_lt q_in)
 
 -- place k of the two turns is place m of the second
-record IsTurned (places : List ℕ) (k m : ℕ) : Type 0 where
-  turned_buds : buds places k ≡ buds places (length places) + buds places m
-  turned_leaves : leaves places k ≡ leaves places (length places) + leaves places m
+pub record IsTurned (places : List ℕ) (k m : ℕ) : Type 0 where
+  pub turned_buds : buds places k ≡ buds places (length places) + buds places m
+  pub turned_leaves : leaves places k ≡ leaves places (length places) + leaves places m
 
-turned : (places : List ℕ) (k m : ℕ) → k ≡ length places + m → m ≤ length places → IsTurned places k m
+pub turned : (places : List ℕ) (k m : ℕ) → k ≡ length places + m → m ≤ length places → IsTurned places k m
 turned places k m e m_in =
     let turn = second places m m_in in
     record { turned_buds = ap (λ i. buds places i) e ∙ turn.second_buds; turned_leaves = ap (λ i. leaves places i) e ∙ turn.second_leaves }

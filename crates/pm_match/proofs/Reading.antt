@@ -159,7 +159,7 @@ push_before stack x h less = get_or_append_left stack (x ∷ []) 0 h less
 push_top : (stack : List ℕ) (x h : ℕ) → length stack ≡ h → slice_index (stack ++ x ∷ []) h ≡ x
 push_top stack x h e = get_or_push stack x 0 h e
 
-stacked_push : (stack : List ℕ) (x k : ℕ) → IsStacked stack k → IsStacked (stack ++ x ∷ []) k
+pub stacked_push : (stack : List ℕ) (x k : ℕ) → IsStacked stack k → IsStacked (stack ++ x ∷ []) k
 stacked_push stack x k h =
     let less = h.on_stack in
     record { height = h.height; on_stack = omega (arith, length_push stack x); is_there = push_before stack x h.height h.on_stack ∙ h.is_there }
