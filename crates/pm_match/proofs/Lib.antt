@@ -1,5 +1,6 @@
+mod Completing
 mod Counts
 mod Meeting
-mod Rise
 mod Reading
+mod Rise
 mod Turns

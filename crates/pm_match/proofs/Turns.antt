@@ -72,7 +72,7 @@ listed_other places n pairs no_bud h =
         ])
     }
 
-listed_with_leaf : (places : List ℕ) (n t leaf : ℕ) (pairs : List (ℕ × ℕ)) → t < length pairs → IsListed places n pairs → IsListed places n (with_leaf pairs t leaf)
+pub listed_with_leaf : (places : List ℕ) (n t leaf : ℕ) (pairs : List (ℕ × ℕ)) → t < length pairs → IsListed places n pairs → IsListed places n (with_leaf pairs t leaf)
 listed_with_leaf places n t leaf pairs t_in h =
     let few = h.few in
     let kept = length-with_leaf pairs t leaf in
@@ -130,7 +130,7 @@ pub record IsFreeList (places : List ℕ) (q : ℕ) (free : List ℕ) : Type 0 w
   pub rising : (j k : ℕ) → j < k → k < length free → slice_index free j < slice_index free k
   pub whole : (r : ℕ) → r < q → slice_index places r ≡ LEAF → ((p : ℕ) × IsPair places p r) ⊎ IsStacked free r
 
-free_none : (places : List ℕ) → IsFreeList places 0 []
+pub free_none : (places : List ℕ) → IsFreeList places 0 []
 free_none places = record {
   sound = (λ k less. absurd (omega arith));
   before = (λ k less. absurd (omega arith));
@@ -139,7 +139,7 @@ free_none places = record {
 }
 
 -- a place that is no free leaf
-free_more : (places : List ℕ) (q : ℕ) (free : List ℕ) → (slice_index places q ≡ LEAF → (p : ℕ) × IsPair places p q) → IsFreeList places q free → IsFreeList places (suc q) free
+pub free_more : (places : List ℕ) (q : ℕ) (free : List ℕ) → (slice_index places q ≡ LEAF → (p : ℕ) × IsPair places p q) → IsFreeList places q free → IsFreeList places (suc q) free
 free_more places q free paired h = record {
   sound = h.sound;
   before = (λ k less. omega (arith, h.before k less));
@@ -150,7 +150,7 @@ free_more places q free paired h = record {
     ])
 }
 
-free_push : (places : List ℕ) (q : ℕ) (free : List ℕ) → IsFree places q → IsFreeList places q free → IsFreeList places (suc q) (free ++ q ∷ [])
+pub free_push : (places : List ℕ) (q : ℕ) (free : List ℕ) → IsFree places q → IsFreeList places q free → IsFreeList places (suc q) (free ++ q ∷ [])
 free_push places q free is_free h =
     let more : length (free ++ q ∷ []) ≡ suc (length free) = omega (arith, length_push free q) in
     let old_at = λ (k : ℕ) (less : k < length free). get_or_append_left free (q ∷ []) 0 k less in
