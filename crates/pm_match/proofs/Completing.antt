@@ -6,11 +6,12 @@ use Rattle.std.proofs.lemmas.List.{length_push, length-take-le}
 use Rattle.std.proofs.lemmas.Option.{slice_get_within, slice_get-get_or, get_or_from_slice_get}
 use Rattle.pm_trees.specs.declared.letters.TheConstants.{LEAF, BUD}
 use Rattle.pm_match.specs.Pair.{IsPair, IsFree}
+use Rattle.pm_match.specs.Waiting.{bud_at, with_leaf, top_of}
 use Rattle.pm_match.specs.Pairing.{Pairs, IsPairing}
 use Rattle.pm_match.proofs.Counts.{letter, buds, leaves, letter-second, bud_within, leaf_within, IsStep, at_bud, at_leaf, at_other, HasSurplus}
 use Rattle.pm_match.proofs.Meeting.{IsMeeting, pair_second, pair_unique, IsTurned, turned}
 use Rattle.pm_match.proofs.Rise.{IsRise, free_at, pair_at}
-use Rattle.pm_match.proofs.Reading.{bud_at, leaf_at, with_leaf, length-with_leaf, bud_at-with_leaf, IsOpen, open_meets, IsStacked, IsReading, reading_meet, reading_loose, reading_other, reading_inner_bud, reading_inner_leaf, top_of, top_within, top_opens}
+use Rattle.pm_match.proofs.Reading.{leaf_at, length-with_leaf, bud_at-with_leaf, IsOpen, open_meets, IsStacked, IsReading, reading_meet, reading_loose, reading_other, reading_inner_bud, reading_inner_leaf, top_within, top_opens}
 use Rattle.pm_match.proofs.Turns.{IsListedBud, IsListed, IsFirstTurn, listed_with_leaf, IsFreeList, free_none, free_more, free_push}
 
 -- The state before place q of the second turn: so many pairs waited when it began, and so many buds of this turn wait.
@@ -157,3 +158,48 @@ two_free places waited pairs stack inner free s one h =
     let same = same_rise places waited inner s one (subst (λ (c : ℕ). IsRise places (length places + length places) c) only h.reading.rise) in
     let whole = turned places (length places + length places) (length places) refl (omega arith) in
     omega (arith, s.surplus, h.level, whole.turned_buds, whole.turned_leaves)
+
+listed_within : (pairs : List (ℕ × ℕ)) (k p q : ℕ) → slice_get pairs k ≡ Some (p, q) → (bud_at pairs k ≡ p) × (leaf_at pairs k ≡ q)
+unfolding bud_at leaf_at
+listed_within pairs k p q e =
+    let same = get_or_from_slice_get pairs k (p, q) (0, 0) e in
+    (ap (λ (x : ℕ × ℕ). x.0) same, ap (λ (x : ℕ × ℕ). x.1) same)
+
+listed_at : (pairs : List (ℕ × ℕ)) (k p q : ℕ) → k < length pairs → bud_at pairs k ≡ p → leaf_at pairs k ≡ q → slice_get pairs k ≡ Some (p, q)
+unfolding bud_at leaf_at
+listed_at pairs k p q less e f =
+    slice_get-get_or pairs k (0, 0) less ∙ ap (λ (x : ℕ). Some (x, (get_or pairs k (0, 0)).1)) e ∙ ap (λ (x : ℕ). Some (p, x)) f
+
+-- the pairing that the two turns give
+abbrev pub found : List (ℕ × ℕ) → List ℕ → Pairs
+found pairs free = record { pairs = pairs; first_free = slice_index free 0; second_free = slice_index free 1 }
+
+pub pairing_from : (places : List ℕ) (waited : ℕ) (pairs : List (ℕ × ℕ)) (stack : List ℕ) (inner : ℕ) (free : List ℕ) → HasSurplus places → IsRise places (length places) waited → IsSecondTurn places waited (length places) pairs stack inner free → IsPairing places (found pairs free)
+pairing_from places waited pairs stack inner free s one h =
+    let empty = stack_empty places waited pairs stack inner free s h in
+    let two = two_free places waited pairs stack inner free s one h in
+    let is_pair = λ (k : ℕ) (less : k < length pairs). elim (h.reading.met k less) as (λ _. IsPair places (bud_at pairs k) (leaf_at pairs k)) [
+        inl waits ↦ absurd (omega (arith, waits.on_stack))
+      | inr pair ↦ pair
+      ] in
+    record {
+      sound = (λ k p q e. let at = listed_within pairs k p q e in
+        subst (λ (a : ℕ). IsPair places a q) at.0 (subst (λ (b : ℕ). IsPair places (bud_at pairs k) b) at.1 (is_pair k (slice_get_within pairs k (p, q) e))));
+      whole = (λ p q pair. let bud = h.listed.every p (bud_within places p pair.bud) pair.bud in
+        let here : IsPair places p (leaf_at pairs bud.index) = subst (λ (a : ℕ). IsPair places a (leaf_at pairs bud.index)) bud.same (is_pair bud.index bud.listed) in
+        (bud.index, listed_at pairs bud.index p q bud.listed bud.same (pair_unique places p _ q here pair)));
+      rising = (λ j k p q r t less e f. omega (arith, h.listed.rising j k less (slice_get_within pairs k (r, t) f), (listed_within pairs j p q e).0, (listed_within pairs k r t f).0));
+      each_bud = (λ p e. let bud = h.listed.every p (bud_within places p e) e in
+        (leaf_at pairs bud.index, subst (λ (a : ℕ). IsPair places a (leaf_at pairs bud.index)) bud.same (is_pair bud.index bud.listed)));
+      in_order = h.loose.rising 0 1 (omega arith) (omega arith);
+      first = h.loose.sound 0 (omega arith);
+      second = h.loose.sound 1 (omega arith);
+      no_third = (λ q is_free. elim (h.loose.whole q (leaf_within places q is_free.leaf) is_free.leaf) [
+          inl pair ↦ absurd (is_free.alone pair.0 pair.1)
+        | inr there ↦ elim (cases_eq there.height 0) [
+            inl e ↦ inl (sym there.is_there ∙ ap (λ k. slice_index free k) e)
+          | inr ne ↦ let less = there.on_stack in let last : there.height ≡ 1 = omega arith in
+              inr (sym there.is_there ∙ ap (λ k. slice_index free k) last)
+          ]
+        ])
+    }

@@ -6,16 +6,13 @@ use Rattle.std.proofs.lemmas.Bool.{cases_lt, cases_eq}
 use Rattle.std.proofs.lemmas.List.{length-set, length-take, length_push, get_or_push, get_or_append_left, get_or-set_same, get_or-set_other, get_or-take, length-take-le}
 use Rattle.pm_trees.specs.declared.letters.TheConstants.{LEAF, BUD}
 use Rattle.pm_match.specs.Pair.{IsPair, IsFree}
+use Rattle.pm_match.specs.Waiting.{bud_at, with_leaf, top_of}
 use Rattle.pm_match.proofs.Counts.{letter, buds, leaves, letter-first, letter-second, IsStep, at_bud, at_leaf, at_other, HasSurplus}
 use Rattle.pm_match.proofs.Meeting.{IsMeeting, pair_first, pair_second}
 use Rattle.pm_match.proofs.Rise.{IsRise, rise_none, rise_bud, rise_leaf, rise_loose, rise_other}
 
--- the bud of the k-th pair
-pub bud_at : List (ℕ × ℕ) → ℕ → ℕ
-bud_at pairs k = (get_or pairs k (0, 0)).0
-
 -- the leaf of the k-th pair
-pub leaf_at : List (ℕ × ℕ) → ℕ → ℕ
+unfoldable pub leaf_at : List (ℕ × ℕ) → ℕ → ℕ
 leaf_at pairs k = (get_or pairs k (0, 0)).1
 
 pub bud_at-push : (pairs : List (ℕ × ℕ)) (x : ℕ × ℕ) → bud_at (pairs ++ x ∷ []) (length pairs) ≡ x.0
@@ -29,10 +26,6 @@ bud_at-before pairs x k h = ap (λ (y : ℕ × ℕ). y.0) (get_or_append_left pa
 pub leaf_at-before : (pairs : List (ℕ × ℕ)) (x : ℕ × ℕ) (k : ℕ) → k < length pairs → leaf_at (pairs ++ x ∷ []) k ≡ leaf_at pairs k
 unfolding leaf_at
 leaf_at-before pairs x k h = ap (λ (y : ℕ × ℕ). y.1) (get_or_append_left pairs (x ∷ []) (0, 0) k h)
-
--- the pairs with the leaf of the t-th written
-pub with_leaf : List (ℕ × ℕ) → ℕ → ℕ → List (ℕ × ℕ)
-with_leaf pairs t leaf = set pairs t (bud_at pairs t, leaf)
 
 pub length-with_leaf : (pairs : List (ℕ × ℕ)) (t leaf : ℕ) → length (with_leaf pairs t leaf) ≡ length pairs
 unfolding with_leaf
@@ -199,10 +192,6 @@ reading_bud places i pairs stack e h =
             inl (record { height = length stack; on_stack = omega arith; is_there = push_top stack (length pairs) (length stack) refl ∙ last })
         ])
     }
-
--- the pairs and the stack after a leaf for which the bud at the top of the stack waits
-pub top_of : List ℕ → ℕ
-top_of stack = slice_index stack (length stack - 1)
 
 met_below : (stack : List ℕ) (k : ℕ) → k ≢ top_of stack → IsStacked stack k → IsStacked (take (length stack - 1) stack) k
 unfolding top_of
