@@ -2,4 +2,6 @@
 #![tactic(auto)]
 
 mod balance;
-mod matching;
+mod pairing;
+
+pub use pairing::Pairing;
