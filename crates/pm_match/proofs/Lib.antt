@@ -3,4 +3,5 @@ mod Counts
 mod Meeting
 mod Reading
 mod Rise
+mod Steps
 mod Turns
