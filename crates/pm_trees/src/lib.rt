@@ -1,6 +1,7 @@
 //! Blossoming trees: plane trees with buds and leaves, planted at a leaf, written as words.
 #![tactic(auto)]
 
+mod faults;
 mod letters;
 mod tree;
 

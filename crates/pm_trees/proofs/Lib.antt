@@ -1,0 +1,6 @@
+pub mod Balance
+pub mod Reading
+pub mod Levels
+pub mod Own
+pub mod Stack
+pub mod Tally
