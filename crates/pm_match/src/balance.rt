@@ -3,7 +3,7 @@ ghost use Rattle.pm_trees.specs.declared.letters.TheConstants.{LEAF as leaf, BUD
 ghost use Rattle.pm_trees.specs.Word.{count, contour};
 ghost use Rattle.pm_match.specs.Pair.{IsBalanced};
 
-use pm_trees::{BUD, LEAF};
+use pm_trees::{BUD, LEAF, Tree};
 
 // Whether the plant is free, in a word of a tree: no bud is left that waits for a leaf.
 fn is_plant_free(letters: &[u8]) -> bool
@@ -19,4 +19,11 @@ fn is_plant_free(letters: &[u8]) -> bool
         }
     }
     waiting == 0
+}
+
+/// Whether the tree is balanced: its plant is in no pair.
+pub fn is_balanced(tree: &Tree) -> bool
+    ensures { IsTrue result ↔ IsBalanced (contour tree.now) }
+{
+    is_plant_free(tree.letters())
 }

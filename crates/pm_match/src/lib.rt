@@ -4,4 +4,5 @@
 mod balance;
 mod pairing;
 
-pub use pairing::Pairing;
+pub use balance::is_balanced;
+pub use pairing::{Pairing, matching};

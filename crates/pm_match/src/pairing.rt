@@ -5,7 +5,7 @@ ghost use Rattle.pm_trees.specs.Word.{count, contour};
 ghost use Rattle.pm_match.specs.Pairing.{IsPairing};
 ghost use Rattle.pm_match.specs.Waiting.{Opens, Meets, Passes, top_of};
 
-use pm_trees::{BUD, LEAF};
+use pm_trees::{BUD, LEAF, Tree};
 use std::alloc::{AllocError, Global};
 use std::marker::Model;
 
@@ -126,4 +126,11 @@ fn match_letters(alloc: Global, letters: &[u8]) -> Result<Pairing, AllocError>
         first_free: free[0],
         second_free: free[1],
     })
+}
+
+/// All pairs of a bud and a leaf in the tree, and its two free leaves. It takes time and memory linear in the tree.
+pub fn matching(alloc: Global, tree: &Tree) -> Result<Pairing, AllocError>
+    ensures { IfOk result (λ found. IsPairing (contour tree.now) found) }
+{
+    match_letters(alloc, tree.letters())
 }
