@@ -10,15 +10,15 @@ use Rattle.pm_trees.specs.Word.{count}
 use Rattle.pm_match.specs.Pair.{stretch}
 
 -- the letter at a place of the two turns
-pub letter : List ℕ → ℕ → ℕ
+unfoldable pub letter : List ℕ → ℕ → ℕ
 letter places i = get_or (places ++ places) i 0
 
 -- the buds among the first k places
-pub buds : List ℕ → ℕ → ℕ
+unfoldable pub buds : List ℕ → ℕ → ℕ
 buds places k = count BUD (take k (places ++ places))
 
 -- the leaves among the first k places
-pub leaves : List ℕ → ℕ → ℕ
+unfoldable pub leaves : List ℕ → ℕ → ℕ
 leaves places k = count LEAF (take k (places ++ places))
 
 pub letter-first : (places : List ℕ) (i : ℕ) → i < length places → letter places i ≡ slice_index places i

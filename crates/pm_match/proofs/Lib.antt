@@ -1,7 +1,8 @@
+mod Backwards
 mod Completing
-mod Counts
-mod Meeting
+pub mod Counts
+pub mod Meeting
 mod Reading
-mod Rise
+pub mod Rise
 mod Steps
 mod Turns

@@ -186,9 +186,43 @@ meeting_of_pair places p q h =
     | inr e ↦ (p, subst (λ (i : ℕ). IsMeeting places p i) e m.1.meeting)
     ]
 
+-- a pair's meeting in the second turn
+pub record IsMetLate (places : List ℕ) (p q r : ℕ) : Type 0 where
+  pub late : IsMeeting places r (length places + q)
+  pub back : r % length places ≡ p
+
+pub late_of_pair : (places : List ℕ) (p q : ℕ) → IsPair places p q → (r : ℕ) × IsMetLate places p q r
+late_of_pair places p q h =
+    let m = met_of_pair places p q h in
+    elim m.1.where_it_is [
+      inl e ↦ (length places + p, record { late = meeting_up places p q (subst (λ (i : ℕ). IsMeeting places p i) e m.1.meeting) m.1.end_inside; back = add-mod_left (length places) p ∙ mod-eq_of_lt m.1.inside })
+    | inr e ↦ (p, record { late = subst (λ (i : ℕ). IsMeeting places p i) e m.1.meeting; back = mod-eq_of_lt m.1.inside })
+    ]
+
+-- a leaf is met by one bud at most
+earlier_is_none : (places : List ℕ) (r p j : ℕ) → IsMeeting places r j → IsMeeting places p j → r < p → ⊥
+earlier_is_none places r p j h g earlier =
+    let step = at_bud places p g.bud in
+    let before = g.before in
+    let high = h.above p (omega arith) (omega arith) in
+    omega (arith, step.more_buds, step.more_leaves, h.level, g.level)
+
+pub met_by_one : (places : List ℕ) (r p j : ℕ) → IsMeeting places r j → IsMeeting places p j → r ≡ p
+met_by_one places r p j h g = elim (cases_order r p) [
+      inl e ↦ e
+    | inr o ↦ elim o [ inl l ↦ absurd (earlier_is_none places r p j h g l) | inr l ↦ absurd (earlier_is_none places p r j g h l) ]
+    ]
+
+-- a leaf is in one pair at most
+pub pair_unique_leaf : (places : List ℕ) (p r q : ℕ) → IsPair places p q → IsPair places r q → p ≡ r
+pair_unique_leaf places p r q h g =
+    let a = late_of_pair places p q h in
+    let b = late_of_pair places r q g in
+    sym a.1.back ∙ ap (λ i. i % length places) (met_by_one places a.0 b.0 (length places + q) a.1.late b.1.late) ∙ b.1.back
+
 -- every place from d on is at least as high as the place j
-record IsHighFrom (places : List ℕ) (j d : ℕ) : Type 0 where
-  high : (m : ℕ) → d ≤ m → m ≤ j → leaves places m + buds places j ≤ buds places m + leaves places j
+pub record IsHighFrom (places : List ℕ) (j d : ℕ) : Type 0 where
+  pub high : (m : ℕ) → d ≤ m → m ≤ j → leaves places m + buds places j ≤ buds places m + leaves places j
 
 -- a step up from below the place j is a bud
 rise_is_bud : (places : List ℕ) (j d : ℕ) → letter places j ≡ LEAF → d < j → buds places d + leaves places j < leaves places d + buds places j → IsHighFrom places j (suc d) → letter places d ≡ BUD
@@ -203,7 +237,7 @@ rise_is_bud places j d leaf before down h =
       ]
     ]
 
-rise_meets : (places : List ℕ) (j d : ℕ) → letter places j ≡ LEAF → d < j → buds places d + leaves places j < leaves places d + buds places j → IsHighFrom places j (suc d) → IsMeeting places d j
+pub rise_meets : (places : List ℕ) (j d : ℕ) → letter places j ≡ LEAF → d < j → buds places d + leaves places j < leaves places d + buds places j → IsHighFrom places j (suc d) → IsMeeting places d j
 rise_meets places j d leaf before down h =
     let bud : letter places d ≡ BUD = rise_is_bud places j d leaf before down h in
     let step = at_bud places d bud in
