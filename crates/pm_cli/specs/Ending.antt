@@ -75,3 +75,14 @@ abbrev pub IsWriting : List ℕ → Option (List ℕ) → Option (List ℕ) → 
 IsWriting text old new faults_old faults_new (Ok done) = (new ≡ added old text) × (faults_new ≡ faults_old)
 IsWriting text old new faults_old faults_new (Err Write) = ((n : ℕ) × (new ≡ added old (take n text))) × FaultsRose faults_old faults_new
 IsWriting text old new faults_old faults_new (Err stop) = ⊥
+
+-- where the input told its bytes, none are left
+abbrev pub HasNothingLeft : Option (List ℕ) → Option (List ℕ) → Type 0
+HasNothingLeft old new = (left : List ℕ) → old ≡ Some left → new ≡ Some []
+
+-- what is told of a stop: the stop itself, or want of memory in place of a refusal
+abbrev pub IsToldFor : Stop → Stop → Type 0
+IsToldFor (Refused refusal) told = (told ≡ Refused refusal) ⊎ (told ≡ Memory)
+IsToldFor Read told = told ≡ Read
+IsToldFor Write told = told ≡ Write
+IsToldFor Memory told = told ≡ Memory

@@ -6,6 +6,6 @@ mod engine;
 mod refusal;
 mod words;
 
-
+pub use engine::run;
 pub use refusal::{Limit, Refusal, Stop, TreeRule};
 pub use words::Command;

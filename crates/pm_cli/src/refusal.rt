@@ -1,5 +1,5 @@
 ghost use Rattle.std.specs.Prelude.{◌≡◌, IfOk, string_bytes};
-ghost use Rattle.pm_cli.specs.Lines.{line, text_of_limit, text_of_rule, text_of_refusal, text_of_stop, status_of_refusal, status_of_stop};
+ghost use Rattle.pm_cli.specs.Lines.{line, text_of_limit, text_of_rule, text_of_refusal, status_of_refusal, status_of_stop};
 
 use std::alloc::{AllocError, Global};
 
@@ -74,7 +74,7 @@ impl Refusal {
     }
 
     // The line that tells it.
-    fn line(self, alloc: Global) -> Result<String, AllocError>
+    pub(crate) fn line(self, alloc: Global) -> Result<String, AllocError>
         ensures { IfOk result (λ text. string_bytes text ≡ line (text_of_refusal self)) }
     {
         match self {
@@ -121,18 +121,6 @@ impl Stop {
             Stop::Read => 5,
             Stop::Write => 8,
             Stop::Memory => 9,
-        }
-    }
-
-    // The line that tells it.
-    pub(crate) fn line(self, alloc: Global) -> Result<String, AllocError>
-        ensures { IfOk result (λ text. string_bytes text ≡ line (text_of_stop self)) }
-    {
-        match self {
-            Stop::Refused(refusal) => refusal.line(alloc),
-            Stop::Read => String::from_str(alloc, "planarmap: read\n"),
-            Stop::Write => String::from_str(alloc, "planarmap: write\n"),
-            Stop::Memory => String::from_str(alloc, "planarmap: memory\n"),
         }
     }
 }
