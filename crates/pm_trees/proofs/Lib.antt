@@ -3,6 +3,7 @@ pub mod Balance
 pub mod Least
 pub mod Levels
 pub mod Own
+pub mod Pairing
 pub mod Reading
 pub mod Stack
 pub mod Tally

@@ -1,12 +1,14 @@
 //! Blossoming trees: plane trees with buds and leaves, planted at a leaf, written as words.
 #![tactic(auto)]
 
+mod bracketing;
 mod faults;
 mod letters;
 mod nodes;
 mod read;
 mod tree;
 
+pub use bracketing::brackets;
 pub use letters::{BUD, CLOSE, LEAF, OPEN};
 pub use read::read_tree;
 pub use tree::{Tree, TreeRefusal};
