@@ -16,7 +16,7 @@ push_top rest index =
     record {
       some = omega arith;
       top = get_or_push rest index 0 (length (rest ++ index ∷ []) - 1) (omega arith);
-      below = sym (take_at rest (index ∷ []) (length (rest ++ index ∷ []) - 1) (omega arith))
+      below = sym (take_at rest (index ∷ []) (length (rest ++ index ∷ []) - 1) (omega arith));
     }
 
 top_is : (stack rest : List ℕ) (index : ℕ) → stack ≡ rest ++ index ∷ [] → IsTop stack rest index
