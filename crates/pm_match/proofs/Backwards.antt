@@ -1,10 +1,10 @@
 -- A word read backwards from the plant: the first bud for which no leaf after it is left meets the plant.
-use Rattle.std.proofs.Common.{◌≡◌, ◌≢◌, ℕ, zero, suc, ◌+◌, ◌-◌, ◌<◌, ◌≤◌, List, length, refl, sym, ap, ◌∙◌, subst, ◌⊎◌, inl, inr, arith, add-one}
+use Rattle.std.proofs.Common.{◌≡◌, ◌≢◌, ℕ, suc, ◌+◌, ◌-◌, ◌<◌, ◌≤◌, List, length, refl, sym, ap, ◌∙◌, subst, inl, inr, arith}
 use Rattle.std.specs.Prelude.{slice_index}
 use Rattle.std.proofs.lemmas.Bool.{cases_eq}
 use Rattle.pm_trees.specs.declared.letters.TheConstants.{LEAF, BUD}
 use Rattle.pm_trees.specs.Word.{count, contour}
-use Rattle.pm_match.specs.Pair.{IsPair, IsFree, IsBalanced}
+use Rattle.pm_match.specs.Pair.{IsPair, IsBalanced}
 use Rattle.pm_match.proofs.Counts.{letter, buds, leaves, letter-first, letter-second, IsStep, at_bud, at_leaf, at_other, surplus_from}
 use Rattle.pm_match.proofs.Meeting.{IsMeeting, pair_second, meeting_of_pair, IsHighFrom, rise_meets}
 use Rattle.pm_match.proofs.Rise.{letter-contour}

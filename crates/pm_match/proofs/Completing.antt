@@ -1,18 +1,18 @@
 -- The second turn gives the buds that still wait their leaves, and finds the two free leaves.
-use Rattle.std.proofs.Common.{◌≡◌, ◌≢◌, ℕ, zero, suc, ◌+◌, ◌-◌, ◌<◌, ◌≤◌, List, [], ◌∷◌, ◌++◌, length, get_or, set, take, refl, sym, ap, ◌∙◌, subst, ◌⊎◌, inl, inr, arith, add-one, Some}
+use Rattle.std.proofs.Common.{◌≡◌, ◌≢◌, ℕ, suc, ◌+◌, ◌-◌, ◌<◌, ◌≤◌, List, [], ◌∷◌, ◌++◌, length, get_or, take, refl, sym, ap, ◌∙◌, subst, inl, inr, arith, Some}
 use Rattle.std.specs.Prelude.{slice_index, slice_get}
 use Rattle.std.proofs.lemmas.Bool.{cases_lt, cases_eq}
 use Rattle.std.proofs.lemmas.List.{length_push, length-take-le}
 use Rattle.std.proofs.lemmas.Option.{slice_get_within, slice_get-get_or, get_or_from_slice_get}
 use Rattle.pm_trees.specs.declared.letters.TheConstants.{LEAF, BUD}
-use Rattle.pm_match.specs.Pair.{IsPair, IsFree}
+use Rattle.pm_match.specs.Pair.{IsPair}
 use Rattle.pm_match.specs.Waiting.{bud_at, with_leaf, top_of}
 use Rattle.pm_match.specs.Pairing.{Pairs, IsPairing}
 use Rattle.pm_match.proofs.Counts.{letter, buds, leaves, letter-second, bud_within, leaf_within, IsStep, at_bud, at_leaf, at_other, HasSurplus}
-use Rattle.pm_match.proofs.Meeting.{IsMeeting, pair_second, pair_unique, IsTurned, turned}
+use Rattle.pm_match.proofs.Meeting.{pair_second, pair_unique, turned}
 use Rattle.pm_match.proofs.Rise.{IsRise, free_at, pair_at}
-use Rattle.pm_match.proofs.Reading.{leaf_at, length-with_leaf, bud_at-with_leaf, IsOpen, open_meets, IsStacked, IsReading, reading_meet, reading_loose, reading_other, reading_inner_bud, reading_inner_leaf, top_within, top_opens}
-use Rattle.pm_match.proofs.Turns.{IsListedBud, IsListed, IsFirstTurn, listed_with_leaf, IsFreeList, free_none, free_more, free_push}
+use Rattle.pm_match.proofs.Reading.{leaf_at, IsOpen, open_meets, IsReading, reading_meet, reading_loose, reading_other, reading_inner_bud, reading_inner_leaf, top_within, top_opens}
+use Rattle.pm_match.proofs.Turns.{IsListed, IsFirstTurn, listed_with_leaf, IsFreeList, free_none, free_more, free_push}
 
 -- The state before place q of the second turn: so many pairs waited when it began, and so many buds of this turn wait.
 pub record IsSecondTurn (places : List ℕ) (waited q : ℕ) (pairs : List (ℕ × ℕ)) (stack : List ℕ) (inner : ℕ) (free : List ℕ) : Type 0 where

@@ -1,12 +1,11 @@
 -- Pairs as meetings along two turns: a bud meets the first leaf at which the count of buds and leaves after it is even.
-use Rattle.std.proofs.Common.{◌≡◌, ◌≢◌, ℕ, zero, suc, ◌+◌, ◌-◌, ◌%◌, ◌<◌, ◌≤◌, List, length, take, drop, refl, sym, ap, ◌∙◌, subst, ◌⊎◌, inl, inr, lit<, arith}
+use Rattle.std.proofs.Common.{◌≡◌, ℕ, zero, suc, ◌+◌, ◌-◌, ◌%◌, ◌<◌, ◌≤◌, List, length, refl, sym, ap, ◌∙◌, subst, ◌⊎◌, inl, inr, arith}
 use Rattle.std.specs.Prelude.{slice_index}
 use Rattle.std.proofs.lemmas.Bool.{cases_lt, cases_eq, cases_order}
 use Rattle.std.proofs.Math.Nat.{mod-eq_of_lt, add-mod_left}
 use Rattle.pm_trees.specs.declared.letters.TheConstants.{LEAF, BUD}
-use Rattle.pm_trees.specs.Word.{count}
-use Rattle.pm_match.specs.Pair.{stretch, IsPair}
-use Rattle.pm_match.proofs.Counts.{letter, buds, leaves, letter-first, letter-second, bud_within, leaf_within, bud_in_turns, leaf_in_turns, IsStep, at_bud, at_leaf, at_other, IsSecond, second, IsStretch, stretched, HasSurplus}
+use Rattle.pm_match.specs.Pair.{IsPair}
+use Rattle.pm_match.proofs.Counts.{letter, buds, leaves, letter-first, letter-second, bud_within, leaf_within, leaf_in_turns, at_bud, at_leaf, at_other, second, stretched, HasSurplus}
 
 -- the bud at p meets the leaf at j
 pub record IsMeeting (places : List ℕ) (p j : ℕ) : Type 0 where

@@ -1,10 +1,10 @@
 -- What a pairing says of each leaf.
-use Rattle.std.proofs.Common.{◌≡◌, ◌≢◌, ℕ, zero, suc, List, [], ◌∷◌, Option, Some, None, refl, sym, ap, ◌∙◌, ◌⊎◌, inl, inr}
+use Rattle.std.proofs.Common.{◌≡◌, ◌≢◌, ℕ, zero, suc, List, [], ◌∷◌, Some, ap, ◌⊎◌, inl, inr}
 use Rattle.std.specs.Prelude.{slice_index, slice_get}
 use Rattle.std.proofs.lemmas.Bool.{cases_eq}
 use Rattle.std.proofs.lemmas.Option.{none-some, same_Some}
 use Rattle.pm_trees.specs.declared.letters.TheConstants.{LEAF}
-use Rattle.pm_match.specs.Pair.{IsPair, IsFree}
+use Rattle.pm_match.specs.Pair.{IsPair}
 use Rattle.pm_match.specs.Pairing.{Pairs, IsPairing}
 
 -- a listed pair with this leaf

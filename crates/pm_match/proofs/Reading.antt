@@ -1,14 +1,14 @@
 -- What is known while the places of two turns are read, with a list of pairs in the making and a stack of those that wait
 -- for their leaf.
-use Rattle.std.proofs.Common.{◌≡◌, ◌≢◌, ℕ, zero, suc, ◌+◌, ◌-◌, ◌<◌, ◌≤◌, List, [], ◌∷◌, ◌++◌, length, get_or, set, take, refl, sym, ap, ◌∙◌, subst, ◌⊎◌, inl, inr, arith, add-one}
+use Rattle.std.proofs.Common.{◌≡◌, ◌≢◌, ℕ, zero, suc, ◌+◌, ◌-◌, ◌<◌, ◌≤◌, List, [], ◌∷◌, ◌++◌, length, get_or, set, take, refl, sym, ap, ◌∙◌, subst, ◌⊎◌, inl, inr, arith}
 use Rattle.std.specs.Prelude.{slice_index}
 use Rattle.std.proofs.lemmas.Bool.{cases_lt, cases_eq}
-use Rattle.std.proofs.lemmas.List.{length-set, length-take, length_push, get_or_push, get_or_append_left, get_or-set_same, get_or-set_other, get_or-take, length-take-le}
+use Rattle.std.proofs.lemmas.List.{length-set, length_push, get_or_push, get_or_append_left, get_or-set_same, get_or-set_other, get_or-take, length-take-le}
 use Rattle.pm_trees.specs.declared.letters.TheConstants.{LEAF, BUD}
-use Rattle.pm_match.specs.Pair.{IsPair, IsFree}
+use Rattle.pm_match.specs.Pair.{IsPair}
 use Rattle.pm_match.specs.Waiting.{bud_at, with_leaf, top_of}
-use Rattle.pm_match.proofs.Counts.{letter, buds, leaves, letter-first, letter-second, IsStep, at_bud, at_leaf, at_other, HasSurplus}
-use Rattle.pm_match.proofs.Meeting.{IsMeeting, pair_first, pair_second}
+use Rattle.pm_match.proofs.Counts.{letter, buds, leaves, IsStep, at_bud, at_leaf, at_other}
+use Rattle.pm_match.proofs.Meeting.{IsMeeting}
 use Rattle.pm_match.proofs.Rise.{IsRise, rise_none, rise_bud, rise_leaf, rise_loose, rise_other}
 
 -- the leaf of the k-th pair

@@ -1,11 +1,11 @@
 -- The highest rise of the count of buds and leaves up to a place: how many buds wait there for a leaf.
-use Rattle.std.proofs.Common.{◌≡◌, ◌≢◌, ℕ, zero, suc, ◌+◌, ◌-◌, ◌*◌, ◌<◌, ◌≤◌, Bool, eqb, List, ◌∷◌, length, IsTrue, ◌↔◌, refl, sym, ap, ◌∙◌, subst, ◌⊎◌, inl, inr, arith, eq-eqb, add-one}
+use Rattle.std.proofs.Common.{◌≡◌, ◌≢◌, ℕ, zero, suc, ◌+◌, ◌-◌, ◌<◌, ◌≤◌, eqb, List, length, IsTrue, ◌↔◌, refl, sym, ◌∙◌, subst, inl, inr, arith, add-one}
 use Rattle.std.specs.Prelude.{slice_index}
-use Rattle.std.proofs.lemmas.Bool.{cases_lt, cases_eq, eqb-true}
+use Rattle.std.proofs.lemmas.Bool.{cases_eq, eqb-true}
 use Rattle.pm_trees.specs.declared.letters.TheConstants.{LEAF, BUD}
 use Rattle.pm_trees.specs.Word.{count, contour}
 use Rattle.pm_match.specs.Pair.{IsPair, IsFree, IsBalanced}
-use Rattle.pm_match.proofs.Counts.{letter, buds, leaves, letter-first, letter-second, leaf_in_turns, IsStep, at_bud, at_leaf, at_other, IsStart, start, HasSurplus, surplus_from}
+use Rattle.pm_match.proofs.Counts.{letter, buds, leaves, letter-first, letter-second, at_bud, at_leaf, at_other, HasSurplus, surplus_from}
 use Rattle.pm_match.proofs.Meeting.{IsMeeting, met_after, pair_of_meeting, meeting_of_pair}
 
 -- c is the highest rise from a place up to place i

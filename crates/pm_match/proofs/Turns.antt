@@ -1,18 +1,15 @@
 -- The two turns along a contour: the first lists the pairs, the second gives the buds that still wait their leaves and
 -- finds the free leaves.
-use Rattle.std.proofs.Common.{◌≡◌, ◌≢◌, ℕ, zero, suc, ◌+◌, ◌-◌, ◌<◌, ◌≤◌, List, [], ◌∷◌, ◌++◌, length, get_or, set, take, refl, sym, ap, ◌∙◌, subst, ◌⊎◌, inl, inr, arith, add-one, Some}
-use Rattle.std.specs.Prelude.{slice_index, slice_get}
+use Rattle.std.proofs.Common.{◌≡◌, ◌≢◌, ℕ, suc, ◌-◌, ◌<◌, ◌≤◌, List, [], ◌∷◌, ◌++◌, length, take, refl, sym, ap, ◌∙◌, subst, ◌⊎◌, inl, inr, arith}
+use Rattle.std.specs.Prelude.{slice_index}
 use Rattle.std.proofs.lemmas.Bool.{cases_lt, cases_eq}
-use Rattle.std.proofs.lemmas.List.{length_push, get_or_push, get_or_append_left, length-take-le}
-use Rattle.std.proofs.lemmas.Option.{slice_get_within, slice_get-get_or, get_or_from_slice_get}
+use Rattle.std.proofs.lemmas.List.{length_push, get_or_push, get_or_append_left}
 use Rattle.pm_trees.specs.declared.letters.TheConstants.{LEAF, BUD}
 use Rattle.pm_match.specs.Pair.{IsPair, IsFree}
 use Rattle.pm_match.specs.Waiting.{bud_at, with_leaf, top_of}
-use Rattle.pm_match.specs.Pairing.{Pairs, IsPairing}
-use Rattle.pm_match.proofs.Counts.{letter, buds, leaves, letter-first, letter-second, bud_within, leaf_within, IsStep, at_bud, at_leaf, at_other, IsSecond, second, HasSurplus}
-use Rattle.pm_match.proofs.Meeting.{IsMeeting, pair_first, pair_second, pair_unique, IsTurned, turned}
-use Rattle.pm_match.proofs.Rise.{IsRise, free_at, pair_at}
-use Rattle.pm_match.proofs.Reading.{leaf_at, bud_at-push, bud_at-before, length-with_leaf, bud_at-with_leaf, IsOpen, open_meets, IsStacked, stacked_push, IsReading, reading_none, reading_bud, reading_meet, reading_loose, reading_other, reading_inner_bud, reading_inner_leaf, top_within, top_opens}
+use Rattle.pm_match.proofs.Counts.{letter, letter-first}
+use Rattle.pm_match.proofs.Meeting.{pair_first}
+use Rattle.pm_match.proofs.Reading.{bud_at-push, bud_at-before, length-with_leaf, bud_at-with_leaf, open_meets, IsStacked, stacked_push, IsReading, reading_none, reading_bud, reading_meet, reading_loose, reading_other, top_within, top_opens}
 
 -- the place of a bud's pair in the list
 pub record IsListedBud (pairs : List (ℕ × ℕ)) (p : ℕ) : Type 0 where

@@ -1,7 +1,7 @@
 -- Each letter changes the count of the waiting buds as it changes the rise.
-use Rattle.std.proofs.Common.{◌≡◌, ℕ, suc, length, sym, subst, arith}
+use Rattle.std.proofs.Common.{◌≡◌, ℕ, suc, length, subst, arith}
 use Rattle.pm_trees.specs.Word.{contour}
-use Rattle.pm_match.proofs.Rise.{IsRise, IsWaiting, waiting_none, waiting_bud, waiting_leaf, waiting_other, balanced_from}
+use Rattle.pm_match.proofs.Rise.{IsRise, waiting_none, waiting_bud, waiting_leaf, waiting_other, balanced_from}
 use Rattle.pm_match.proofs.balance.is_plant_free.Goals as goal
 use Rattle.pm_match.proofs.balance.is_plant_free.Goals.{in-98, in-108, in_default}
 

@@ -1,10 +1,9 @@
 -- Each turn goes on place by place, and what stands after both is the pairing.
-use Rattle.std.proofs.Common.{◌≡◌, ◌≢◌, ℕ, suc, ◌+◌, ◌<◌, ◌≤◌, length, arith, vec_len}
-use Rattle.pm_trees.specs.Word.{count, contour}
-use Rattle.pm_match.specs.Waiting.{top_of}
+use Rattle.std.proofs.Common.{◌<◌, length, arith}
+use Rattle.pm_trees.specs.Word.{contour}
 use Rattle.pm_match.proofs.Counts.{surplus_from}
 use Rattle.pm_match.proofs.Reading.{top_within}
-use Rattle.pm_match.proofs.Steps.{first_start, first_opens, first_leaf, first_bracket, second_start, second_opens, second_closes, second_meets, second_passes, second_bracket, IsDone, done, pairing_read}
+use Rattle.pm_match.proofs.Steps.{first_start, first_opens, first_leaf, first_bracket, second_start, second_opens, second_closes, second_meets, second_passes, second_bracket, done, pairing_read}
 use Rattle.pm_match.proofs.pairing.match_letters.Goals as goal
 use Rattle.pm_match.proofs.pairing.match_letters.Goals.{in-98+in_ok-open-in-98, in-108, in_default, in-98-letter_at, in-108-letter_at, in-108-2+then-not-meet+in_ok-push-in-108-2, in-108-2+else-not-meet, in_default-letter_at}
 
