@@ -18,7 +18,7 @@ reading_start word xs e =
     let P : List ℕ → Type 0 = λ zs. IsReading word zs 0 in
     subst P (sym e) (record { read = has_start word })
 
-reverse_push : (xs : List ℕ) (p : ℕ) → reverse (xs ++ p ∷ []) ≡ p ∷ reverse xs
+pub reverse_push : (xs : List ℕ) (p : ℕ) → reverse (xs ++ p ∷ []) ≡ p ∷ reverse xs
 reverse_push xs p = reverse-append xs (p ∷ [])
 
 -- what an empty pop says of a list

@@ -1,6 +1,7 @@
 ghost use Rattle.std.specs.Prelude.{◌≡◌, ℕ};
 
 use crate::letters::{LEAF, OPEN};
+use std::alloc::AllocError;
 use std::marker::Model;
 
 /// Why a word isn't the word of a blossoming tree, in the order in which the rules are tried. A place counts from 1 along
@@ -19,10 +20,20 @@ pub enum TreeRefusal {
     Buds { place: u32 },
 }
 
+impl From<AllocError> for TreeRefusal {
+    ghost use Rattle.pm_trees.specs.declared.tree.TreeRefusal.TheVariants.{Memory};
+
+    ghost from_gives = { λ _ refusal. refusal ≡ Memory };
+
+    fn from(_error: AllocError) -> TreeRefusal {
+        TreeRefusal::Memory
+    }
+}
+
 /// A blossoming tree (Schaeffer 1997), seen as the letters of its word.
 #[derive(Drop)]
 pub struct Tree {
-    letters: Vec<u8>,
+    pub(crate) letters: Vec<u8>,
 }
 
 impl Model for Tree {
