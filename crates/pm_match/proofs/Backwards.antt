@@ -1,10 +1,10 @@
 -- A word read backwards from the plant: the first bud for which no leaf after it is left meets the plant.
-use Rattle.std.proofs.Common.{◌≡◌, ◌≢◌, ℕ, zero, suc, ◌+◌, ◌-◌, ◌<◌, ◌≤◌, List, length, refl, sym, ap, ◌∙◌, subst, ◌⊎◌, inl, inr, arith, add-one}
+use Rattle.std.proofs.Common.{◌≡◌, ◌≢◌, ℕ, suc, ◌+◌, ◌-◌, ◌<◌, ◌≤◌, List, length, refl, sym, ap, ◌∙◌, subst, inl, inr, arith}
 use Rattle.std.specs.Prelude.{slice_index}
 use Rattle.std.proofs.lemmas.Bool.{cases_eq}
 use Rattle.pm_trees.specs.declared.letters.TheConstants.{LEAF, BUD}
 use Rattle.pm_trees.specs.Word.{count, contour}
-use Rattle.pm_match.specs.Pair.{IsPair, IsFree, IsBalanced}
+use Rattle.pm_match.specs.Pair.{IsPair, IsBalanced}
 use Rattle.pm_match.proofs.Counts.{letter, buds, leaves, letter-first, letter-second, IsStep, at_bud, at_leaf, at_other, surplus_from}
 use Rattle.pm_match.proofs.Meeting.{IsMeeting, pair_second, meeting_of_pair, IsHighFrom, rise_meets}
 use Rattle.pm_match.proofs.Rise.{letter-contour}
@@ -18,9 +18,9 @@ pub record IsBackwards (places : List ℕ) (n i left : ℕ) : Type 0 where
 high_more : (places : List ℕ) (n d left : ℕ) → buds places d + leaves places n ≡ leaves places d + buds places n + left → IsHighFrom places n (suc d) → IsHighFrom places n d
 high_more places n d left e h = record {
   high = λ m low near. elim (cases_eq m d) [
-      inl same ↦ subst (λ (i : ℕ). leaves places i + buds places n ≤ buds places i + leaves places n) (sym same) (omega arith)
+    | inl same ↦ subst (λ (i : ℕ). leaves places i + buds places n ≤ buds places i + leaves places n) (sym same) (omega arith)
     | inr ne ↦ h.high m (omega arith) near
-    ]
+  ];
 }
 
 back_step : (places : List ℕ) (n d b l left less : ℕ) → IsStep places d b l → l + left ≡ b + less → IsBackwards places n (suc d) left → IsBackwards places n d less
@@ -36,9 +36,11 @@ IsReadBack letters k left = IsBackwards (contour letters) (suc (length letters))
 pub back_none : (letters : List ℕ) → IsReadBack letters (length letters) 0
 back_none letters = record {
   inside = omega arith;
-  high = record { high = λ m low near. let same : m ≡ suc (length letters) = omega arith in
-    subst (λ (i : ℕ). leaves (contour letters) i + buds (contour letters) (suc (length letters)) ≤ buds (contour letters) i + leaves (contour letters) (suc (length letters))) (sym same) (omega arith) };
-  level = omega arith
+  high = record {
+    high = λ m low near. let same : m ≡ suc (length letters) = omega arith in
+        subst (λ (i : ℕ). leaves (contour letters) i + buds (contour letters) (suc (length letters)) ≤ buds (contour letters) i + leaves (contour letters) (suc (length letters))) (sym same) (omega arith);
+  };
+  level = omega arith;
 }
 
 pub back_leaf : (letters : List ℕ) (k left : ℕ) → k < length letters → slice_index letters k ≡ LEAF → IsReadBack letters (suc k) left → IsReadBack letters k (left + 1)
@@ -75,14 +77,14 @@ pub back_free : (letters : List ℕ) (left : ℕ) → IsReadBack letters 0 left 
 back_free letters left h = record {
   leaf = refl;
   alone = λ p pair.
-    let places = contour letters in
-    let m = meeting_of_pair places p 0 pair in
-    let here : length places + 0 ≡ suc (length letters) = omega arith in
-    let meeting = subst (λ (i : ℕ). IsMeeting places m.0 i) here m.1 in
-    let step = at_bud places m.0 meeting.bud in
-    let before = meeting.before in
-    elim (cases_eq m.0 0) [
-      inl e ↦ absurd (omega (arith, sym (letter-first places 0 (omega arith)) ∙ ap (λ i. letter places i) (sym e) ∙ meeting.bud))
-    | inr ne ↦ absurd (omega (arith, h.high.high m.0 (omega arith) (omega arith), meeting.level, step.more_buds, step.more_leaves))
-    ]
+      let places = contour letters in
+      let m = meeting_of_pair places p 0 pair in
+      let here : length places + 0 ≡ suc (length letters) = omega arith in
+      let meeting = subst (λ (i : ℕ). IsMeeting places m.0 i) here m.1 in
+      let step = at_bud places m.0 meeting.bud in
+      let before = meeting.before in
+      elim (cases_eq m.0 0) [
+        | inl e ↦ absurd (omega (arith, sym (letter-first places 0 (omega arith)) ∙ ap (λ i. letter places i) (sym e) ∙ meeting.bud))
+        | inr ne ↦ absurd (omega (arith, h.high.high m.0 (omega arith) (omega arith), meeting.level, step.more_buds, step.more_leaves))
+      ];
 }

@@ -1,12 +1,11 @@
 -- Pairs as meetings along two turns: a bud meets the first leaf at which the count of buds and leaves after it is even.
-use Rattle.std.proofs.Common.{◌≡◌, ◌≢◌, ℕ, zero, suc, ◌+◌, ◌-◌, ◌%◌, ◌<◌, ◌≤◌, List, length, take, drop, refl, sym, ap, ◌∙◌, subst, ◌⊎◌, inl, inr, lit<, arith}
+use Rattle.std.proofs.Common.{◌≡◌, ℕ, zero, suc, ◌+◌, ◌-◌, ◌%◌, ◌<◌, ◌≤◌, List, length, refl, sym, ap, ◌∙◌, subst, ◌⊎◌, inl, inr, arith}
 use Rattle.std.specs.Prelude.{slice_index}
 use Rattle.std.proofs.lemmas.Bool.{cases_lt, cases_eq, cases_order}
 use Rattle.std.proofs.Math.Nat.{mod-eq_of_lt, add-mod_left}
 use Rattle.pm_trees.specs.declared.letters.TheConstants.{LEAF, BUD}
-use Rattle.pm_trees.specs.Word.{count}
-use Rattle.pm_match.specs.Pair.{stretch, IsPair}
-use Rattle.pm_match.proofs.Counts.{letter, buds, leaves, letter-first, letter-second, bud_within, leaf_within, bud_in_turns, leaf_in_turns, IsStep, at_bud, at_leaf, at_other, IsSecond, second, IsStretch, stretched, HasSurplus}
+use Rattle.pm_match.specs.Pair.{IsPair}
+use Rattle.pm_match.proofs.Counts.{letter, buds, leaves, letter-first, letter-second, bud_within, leaf_within, leaf_in_turns, at_bud, at_leaf, at_other, second, stretched, HasSurplus}
 
 -- the bud at p meets the leaf at j
 pub record IsMeeting (places : List ℕ) (p j : ℕ) : Type 0 where
@@ -26,21 +25,21 @@ later_is_none places p j i h g later =
 
 pub meeting_unique : (places : List ℕ) (p j i : ℕ) → IsMeeting places p j → IsMeeting places p i → j ≡ i
 meeting_unique places p j i h g = elim (cases_order j i) [
-      inl e ↦ e
-    | inr o ↦ elim o [ inl l ↦ absurd (later_is_none places p j i h g l) | inr l ↦ absurd (later_is_none places p i j g h l) ]
-    ]
+  | inl e ↦ e
+  | inr o ↦ elim o [ inl l ↦ absurd (later_is_none places p j i h g l) | inr l ↦ absurd (later_is_none places p i j g h l) ]
+]
 
 -- within a turn
 pub meeting_within : (places : List ℕ) (p j : ℕ) → HasSurplus places → IsMeeting places p j → p < length places → j < length places + p
 meeting_within places p j s h p_in = elim (cases_lt j (length places + p)) [
-      inl l ↦ l
-    | inr far ↦
-        let step = at_bud places p h.bud in
-        let turn = second places p (omega arith) in
-        let positive : suc p ≤ length places + p = omega arith in
-        let high = h.above (length places + p) positive far in
-        absurd (omega (arith, s.surplus, step.more_buds, step.more_leaves, turn.second_buds, turn.second_leaves, high))
-    ]
+  | inl l ↦ l
+  | inr far ↦
+      let step = at_bud places p h.bud in
+      let turn = second places p (omega arith) in
+      let positive : suc p ≤ length places + p = omega arith in
+      let high = h.above (length places + p) positive far in
+      absurd (omega (arith, s.surplus, step.more_buds, step.more_leaves, turn.second_buds, turn.second_leaves, high))
+]
 
 pair_from : (places : List ℕ) (p q apart : ℕ) → IsMeeting places p (suc p + apart) → p < length places → suc apart < length places → slice_index places q ≡ LEAF → (suc p + apart) % length places ≡ q → IsPair places p q
 pair_from places p q apart h p_in near leaf at = record {
@@ -51,8 +50,8 @@ pair_from places p q apart h p_in near leaf at = record {
   meets = at;
   equal = (let all = stretched places p apart in omega (arith, h.level, all.in_buds, all.in_leaves));
   never_below = (λ k few. let part = stretched places p k in
-    let high = h.above (suc p + k) (omega arith) (omega arith) in
-    omega (arith, part.in_buds, part.in_leaves, high))
+      let high = h.above (suc p + k) (omega arith) (omega arith) in
+      omega (arith, part.in_buds, part.in_leaves, high));
 }
 
 -- a meeting within the first turn
@@ -94,8 +93,8 @@ meeting_up places p j h j_in =
       before = omega arith;
       level = omega (arith, h.level, at_p.turned_buds, at_p.turned_leaves, at_j.turned_buds, at_j.turned_leaves);
       above = (λ k low high. let at_k = turned places k (k - length places) (omega arith) (omega arith) in
-        let below = h.above (k - length places) (omega arith) (omega arith) in
-        omega (arith, below, at_p.turned_buds, at_p.turned_leaves, at_k.turned_buds, at_k.turned_leaves))
+          let below = h.above (k - length places) (omega arith) (omega arith) in
+          omega (arith, below, at_p.turned_buds, at_p.turned_leaves, at_k.turned_buds, at_k.turned_leaves));
     }
 
 pub meeting_down : (places : List ℕ) (p j : ℕ) → IsMeeting places (length places + p) (length places + j) → j < length places → IsMeeting places p j
@@ -109,19 +108,19 @@ meeting_down places p j h j_in =
       before = before;
       level = omega (arith, h.level, at_p.turned_buds, at_p.turned_leaves, at_j.turned_buds, at_j.turned_leaves);
       above = (λ k low high. let at_k = turned places (length places + k) k refl (omega arith) in
-        let below = h.above (length places + k) (omega arith) (omega arith) in
-        omega (arith, below, at_p.turned_buds, at_p.turned_leaves, at_k.turned_buds, at_k.turned_leaves))
+          let below = h.above (length places + k) (omega arith) (omega arith) in
+          omega (arith, below, at_p.turned_buds, at_p.turned_leaves, at_k.turned_buds, at_k.turned_leaves));
     }
 
 -- a leaf of the second turn that a bud meets is in a pair
 pub pair_of_meeting : (places : List ℕ) (p q : ℕ) → HasSurplus places → IsMeeting places p (length places + q) → q < length places → (r : ℕ) × IsPair places r q
 pair_of_meeting places p q s h q_in = elim (cases_lt p (length places)) [
-      inl p_in ↦ (p, pair_second places p q s h p_in q_in)
-    | inr far ↦
-        let back : length places + (p - length places) ≡ p = omega arith in
-        let there : IsMeeting places (length places + (p - length places)) (length places + q) = subst (λ (i : ℕ). IsMeeting places i (length places + q)) (sym back) h in
-        (p - length places, pair_first places (p - length places) q (meeting_down places (p - length places) q there q_in) q_in)
-    ]
+  | inl p_in ↦ (p, pair_second places p q s h p_in q_in)
+  | inr far ↦
+      let back : length places + (p - length places) ≡ p = omega arith in
+      let there : IsMeeting places (length places + (p - length places)) (length places + q) = subst (λ (i : ℕ). IsMeeting places i (length places + q)) (sym back) h in
+      (p - length places, pair_first places (p - length places) q (meeting_down places (p - length places) q there q_in) q_in)
+]
 
 -- the other place of a pair, in two turns
 record IsEnd (places : List ℕ) (j q : ℕ) : Type 0 where
@@ -130,14 +129,14 @@ record IsEnd (places : List ℕ) (j q : ℕ) : Type 0 where
 
 end_of : (places : List ℕ) (j q : ℕ) → 0 < length places → j < length places + length places → j % length places ≡ q → slice_index places q ≡ LEAF → IsEnd places j q
 end_of places j q some j_in at leaf = elim (cases_lt j (length places)) [
-      inl h ↦ let same : j ≡ q = sym (mod-eq_of_lt h) ∙ at in
-        record { leaf = letter-first places j h ∙ ap (λ i. slice_index places i) same ∙ leaf; case = inl same }
-    | inr h ↦ let back : length places + (j - length places) ≡ j = omega arith in
-        let less : j - length places < length places = omega arith in
-        let rest : j - length places ≡ q = sym (mod-eq_of_lt less) ∙ sym (add-mod_left (length places) (j - length places)) ∙ ap (λ i. i % length places) back ∙ at in
-        let same : length places + q ≡ j = omega arith in
-        record { leaf = ap (λ i. letter places i) (sym same) ∙ letter-second places q ∙ leaf; case = inr (sym same) }
-    ]
+  | inl h ↦ let same : j ≡ q = sym (mod-eq_of_lt h) ∙ at in
+      record { leaf = letter-first places j h ∙ ap (λ i. slice_index places i) same ∙ leaf; case = inl same }
+  | inr h ↦ let back : length places + (j - length places) ≡ j = omega arith in
+      let less : j - length places < length places = omega arith in
+      let rest : j - length places ≡ q = sym (mod-eq_of_lt less) ∙ sym (add-mod_left (length places) (j - length places)) ∙ ap (λ i. i % length places) back ∙ at in
+      let same : length places + q ≡ j = omega arith in
+      record { leaf = ap (λ i. letter places i) (sym same) ∙ letter-second places q ∙ leaf; case = inr (sym same) }
+]
 
 -- what a pair is in two turns
 pub record IsMet (places : List ℕ) (p q j : ℕ) : Type 0 where
@@ -151,24 +150,26 @@ pub met_of_pair : (places : List ℕ) (p q : ℕ) → IsPair places p q → (j :
 met_of_pair places p q h =
     let p_in : p < length places = bud_within places p h.bud in
     let near = h.in_turn in
-    let last = end_of places (suc p + h.apart) q (omega arith) (omega arith) h.meets h.leaf in
-    (suc p + h.apart, record {
-      inside = p_in;
-      meeting = record {
-        bud = letter-first places p p_in ∙ h.bud;
-        leaf = last.leaf;
-        before = omega arith;
-        level = (let all = stretched places p h.apart in omega (arith, h.equal, all.in_buds, all.in_leaves));
-        above = (λ k low high. let e : suc p + (k - suc p) ≡ k = omega arith in
-          let part = stretched places p (k - suc p) in
-          let below = h.never_below (k - suc p) (omega arith) in
-          let goal : leaves places (suc p + (k - suc p)) + buds places (suc p) ≤ buds places (suc p + (k - suc p)) + leaves places (suc p) = omega (arith, part.in_buds, part.in_leaves, below) in
-          subst (λ (i : ℕ). leaves places i + buds places (suc p) ≤ buds places i + leaves places (suc p)) e goal)
-      };
-      where_it_is = last.case;
-      at = h.meets;
-      end_inside = leaf_within places q h.leaf
-    })
+    let last = end_of places (suc p + h.apart) q (omega arith) (omega arith) h.meets h.leaf in (
+      suc p + h.apart,
+      record {
+        inside = p_in;
+        meeting = record {
+          bud = letter-first places p p_in ∙ h.bud;
+          leaf = last.leaf;
+          before = omega arith;
+          level = (let all = stretched places p h.apart in omega (arith, h.equal, all.in_buds, all.in_leaves));
+          above = (λ k low high. let e : suc p + (k - suc p) ≡ k = omega arith in
+              let part = stretched places p (k - suc p) in
+              let below = h.never_below (k - suc p) (omega arith) in
+              let goal : leaves places (suc p + (k - suc p)) + buds places (suc p) ≤ buds places (suc p + (k - suc p)) + leaves places (suc p) = omega (arith, part.in_buds, part.in_leaves, below) in
+              subst (λ (i : ℕ). leaves places i + buds places (suc p) ≤ buds places i + leaves places (suc p)) e goal);
+        };
+        where_it_is = last.case;
+        at = h.meets;
+        end_inside = leaf_within places q h.leaf;
+      },
+    )
 
 -- a bud is in one pair at most
 pub pair_unique : (places : List ℕ) (p q r : ℕ) → IsPair places p q → IsPair places p r → q ≡ r
@@ -182,8 +183,8 @@ pub meeting_of_pair : (places : List ℕ) (p q : ℕ) → IsPair places p q → 
 meeting_of_pair places p q h =
     let m = met_of_pair places p q h in
     elim m.1.where_it_is [
-      inl e ↦ (length places + p, meeting_up places p q (subst (λ (i : ℕ). IsMeeting places p i) e m.1.meeting) m.1.end_inside)
-    | inr e ↦ (p, subst (λ (i : ℕ). IsMeeting places p i) e m.1.meeting)
+      | inl e ↦ (length places + p, meeting_up places p q (subst (λ (i : ℕ). IsMeeting places p i) e m.1.meeting) m.1.end_inside)
+      | inr e ↦ (p, subst (λ (i : ℕ). IsMeeting places p i) e m.1.meeting)
     ]
 
 -- a pair's meeting in the second turn
@@ -195,8 +196,8 @@ pub late_of_pair : (places : List ℕ) (p q : ℕ) → IsPair places p q → (r 
 late_of_pair places p q h =
     let m = met_of_pair places p q h in
     elim m.1.where_it_is [
-      inl e ↦ (length places + p, record { late = meeting_up places p q (subst (λ (i : ℕ). IsMeeting places p i) e m.1.meeting) m.1.end_inside; back = add-mod_left (length places) p ∙ mod-eq_of_lt m.1.inside })
-    | inr e ↦ (p, record { late = subst (λ (i : ℕ). IsMeeting places p i) e m.1.meeting; back = mod-eq_of_lt m.1.inside })
+      | inl e ↦ (length places + p, record { late = meeting_up places p q (subst (λ (i : ℕ). IsMeeting places p i) e m.1.meeting) m.1.end_inside; back = add-mod_left (length places) p ∙ mod-eq_of_lt m.1.inside })
+      | inr e ↦ (p, record { late = subst (λ (i : ℕ). IsMeeting places p i) e m.1.meeting; back = mod-eq_of_lt m.1.inside })
     ]
 
 -- a leaf is met by one bud at most
@@ -209,9 +210,9 @@ earlier_is_none places r p j h g earlier =
 
 pub met_by_one : (places : List ℕ) (r p j : ℕ) → IsMeeting places r j → IsMeeting places p j → r ≡ p
 met_by_one places r p j h g = elim (cases_order r p) [
-      inl e ↦ e
-    | inr o ↦ elim o [ inl l ↦ absurd (earlier_is_none places r p j h g l) | inr l ↦ absurd (earlier_is_none places p r j g h l) ]
-    ]
+  | inl e ↦ e
+  | inr o ↦ elim o [ inl l ↦ absurd (earlier_is_none places r p j h g l) | inr l ↦ absurd (earlier_is_none places p r j g h l) ]
+]
 
 -- a leaf is in one pair at most
 pub pair_unique_leaf : (places : List ℕ) (p r q : ℕ) → IsPair places p q → IsPair places r q → p ≡ r
@@ -230,10 +231,10 @@ rise_is_bud places j d leaf before down h =
     let first = h.high (suc d) (omega arith) (omega arith) in
     let j_in = leaf_in_turns places j leaf in
     elim (cases_eq (letter places d) BUD) [
-      inl e ↦ e
-    | inr no_bud ↦ elim (cases_eq (letter places d) LEAF) [
-        inl e ↦ let step = at_leaf places d e in absurd (omega (arith, step.more_buds, step.more_leaves))
-      | inr no_leaf ↦ let step = at_other places d (omega arith) no_bud no_leaf in absurd (omega (arith, step.more_buds, step.more_leaves))
+      | inl e ↦ e
+      | inr no_bud ↦ elim (cases_eq (letter places d) LEAF) [
+        | inl e ↦ let step = at_leaf places d e in absurd (omega (arith, step.more_buds, step.more_leaves))
+        | inr no_leaf ↦ let step = at_other places d (omega arith) no_bud no_leaf in absurd (omega (arith, step.more_buds, step.more_leaves))
       ]
     ]
 
@@ -248,17 +249,17 @@ rise_meets places j d leaf before down h =
       leaf = leaf;
       before = before;
       level = level;
-      above = (λ m low near. let high = h.high m low near in omega arith)
+      above = (λ m low near. let high = h.high m low near in omega arith);
     }
 
 -- where the counts rise to a leaf, a bud meets it
 met_from : (places : List ℕ) (j k n : ℕ) → letter places j ≡ LEAF → k + n ≤ j → IsHighFrom places j (k + n) → buds places k + leaves places j < leaves places k + buds places j → (p : ℕ) × (k ≤ p) × IsMeeting places p j
 met_from places j k zero leaf near h rise = absurd (omega (arith, h.high k (omega arith) (omega arith)))
 met_from places j k (suc n) leaf near h rise = elim (cases_lt (buds places (k + n) + leaves places j) (leaves places (k + n) + buds places j)) [
-      inr up ↦ met_from places j k n leaf (omega arith)
-        (record { high = λ m low late. elim (cases_eq m (k + n)) [ inl e ↦ subst (λ (i : ℕ). leaves places i + buds places j ≤ buds places i + leaves places j) (sym e) up | inr ne ↦ h.high m (omega arith) late ] }) rise
-    | inl down ↦ (k + n, omega arith, rise_meets places j (k + n) leaf (omega arith) down (record { high = λ m low late. h.high m (omega arith) late }))
-    ]
+  | inr up ↦ met_from places j k n leaf (omega arith)
+      (record { high = λ m low late. elim (cases_eq m (k + n)) [ inl e ↦ subst (λ (i : ℕ). leaves places i + buds places j ≤ buds places i + leaves places j) (sym e) up | inr ne ↦ h.high m (omega arith) late ] }) rise
+  | inl down ↦ (k + n, omega arith, rise_meets places j (k + n) leaf (omega arith) down (record { high = λ m low late. h.high m (omega arith) late }))
+]
 
 pub met_after : (places : List ℕ) (j k : ℕ) → letter places j ≡ LEAF → k ≤ j → buds places k + leaves places j < leaves places k + buds places j → (p : ℕ) × (k ≤ p) × IsMeeting places p j
 met_after places j k leaf near rise =

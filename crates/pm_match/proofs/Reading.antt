@@ -1,14 +1,14 @@
 -- What is known while the places of two turns are read, with a list of pairs in the making and a stack of those that wait
 -- for their leaf.
-use Rattle.std.proofs.Common.{◌≡◌, ◌≢◌, ℕ, zero, suc, ◌+◌, ◌-◌, ◌<◌, ◌≤◌, List, [], ◌∷◌, ◌++◌, length, get_or, set, take, refl, sym, ap, ◌∙◌, subst, ◌⊎◌, inl, inr, arith, add-one}
+use Rattle.std.proofs.Common.{◌≡◌, ◌≢◌, ℕ, zero, suc, ◌+◌, ◌-◌, ◌<◌, ◌≤◌, List, [], ◌∷◌, ◌++◌, length, get_or, set, take, refl, sym, ap, ◌∙◌, subst, ◌⊎◌, inl, inr, arith}
 use Rattle.std.specs.Prelude.{slice_index}
 use Rattle.std.proofs.lemmas.Bool.{cases_lt, cases_eq}
-use Rattle.std.proofs.lemmas.List.{length-set, length-take, length_push, get_or_push, get_or_append_left, get_or-set_same, get_or-set_other, get_or-take, length-take-le}
+use Rattle.std.proofs.lemmas.List.{length-set, length_push, get_or_push, get_or_append_left, get_or-set_same, get_or-set_other, get_or-take, length-take-le}
 use Rattle.pm_trees.specs.declared.letters.TheConstants.{LEAF, BUD}
-use Rattle.pm_match.specs.Pair.{IsPair, IsFree}
+use Rattle.pm_match.specs.Pair.{IsPair}
 use Rattle.pm_match.specs.Waiting.{bud_at, with_leaf, top_of}
-use Rattle.pm_match.proofs.Counts.{letter, buds, leaves, letter-first, letter-second, IsStep, at_bud, at_leaf, at_other, HasSurplus}
-use Rattle.pm_match.proofs.Meeting.{IsMeeting, pair_first, pair_second}
+use Rattle.pm_match.proofs.Counts.{letter, buds, leaves, IsStep, at_bud, at_leaf, at_other}
+use Rattle.pm_match.proofs.Meeting.{IsMeeting}
 use Rattle.pm_match.proofs.Rise.{IsRise, rise_none, rise_bud, rise_leaf, rise_loose, rise_other}
 
 -- the leaf of the k-th pair
@@ -34,9 +34,9 @@ length-with_leaf pairs t leaf = length-set pairs t _
 pub bud_at-with_leaf : (pairs : List (ℕ × ℕ)) (t leaf k : ℕ) → t < length pairs → bud_at (with_leaf pairs t leaf) k ≡ bud_at pairs k
 unfolding with_leaf bud_at
 bud_at-with_leaf pairs t leaf k h = elim (cases_eq k t) [
-      inl e ↦ subst (λ (j : ℕ). (get_or (set pairs t (bud_at pairs t, leaf)) j (0, 0)).0 ≡ (get_or pairs j (0, 0)).0) (sym e) (ap (λ (y : ℕ × ℕ). y.0) (get_or-set_same pairs t (bud_at pairs t, leaf) (0, 0) h))
-    | inr ne ↦ ap (λ (y : ℕ × ℕ). y.0) (get_or-set_other pairs t k (bud_at pairs t, leaf) (0, 0) ne)
-    ]
+  | inl e ↦ subst (λ (j : ℕ). (get_or (set pairs t (bud_at pairs t, leaf)) j (0, 0)).0 ≡ (get_or pairs j (0, 0)).0) (sym e) (ap (λ (y : ℕ × ℕ). y.0) (get_or-set_same pairs t (bud_at pairs t, leaf) (0, 0) h))
+  | inr ne ↦ ap (λ (y : ℕ × ℕ). y.0) (get_or-set_other pairs t k (bud_at pairs t, leaf) (0, 0) ne)
+]
 
 pub leaf_at-with_leaf : (pairs : List (ℕ × ℕ)) (t leaf : ℕ) → t < length pairs → leaf_at (with_leaf pairs t leaf) t ≡ leaf
 unfolding with_leaf leaf_at
@@ -62,9 +62,9 @@ open_step places i p n m b l step e h =
       before = omega arith;
       excess = excess;
       above = (λ k low high. elim (cases_eq k (suc i)) [
-          inl same ↦ subst (λ (j : ℕ). leaves places j + buds places (suc p) ≤ buds places j + leaves places (suc p)) (sym same) (omega arith)
+        | inl same ↦ subst (λ (j : ℕ). leaves places j + buds places (suc p) ≤ buds places j + leaves places (suc p)) (sym same) (omega arith)
         | inr ne ↦ h.above k low (omega arith)
-        ])
+      ]);
     }
 
 pub open_new : (places : List ℕ) (i : ℕ) → letter places i ≡ BUD → IsOpen places (suc i) i 0
@@ -73,7 +73,7 @@ open_new places i e = record {
   before = omega arith;
   excess = omega arith;
   above = (λ k low high. let same : k ≡ suc i = omega arith in
-    subst (λ (j : ℕ). leaves places j + buds places (suc i) ≤ buds places j + leaves places (suc i)) (sym same) (omega arith))
+      subst (λ (j : ℕ). leaves places j + buds places (suc i) ≤ buds places j + leaves places (suc i)) (sym same) (omega arith));
 }
 
 pub open_meets : (places : List ℕ) (i p : ℕ) → letter places i ≡ LEAF → IsOpen places i p 0 → IsMeeting places p i
@@ -98,7 +98,7 @@ reading_none places = record {
   rise = rise_none places;
   within = (λ h less. absurd (omega arith));
   opens = (λ h n e. absurd (omega arith));
-  met = (λ k less. absurd (omega arith))
+  met = (λ k less. absurd (omega arith));
 }
 
 -- a bud of the second turn, which isn't stacked
@@ -109,7 +109,7 @@ reading_inner_bud places i pairs stack inner e h =
       rise = subst (λ (c : ℕ). IsRise places (suc i) c) more (rise_bud places i _ e h.rise);
       within = h.within;
       opens = (λ g n same. open_step places i _ (n + inner) (n + suc inner) 1 0 (at_bud places i e) (omega arith) (h.opens g n same));
-      met = h.met
+      met = h.met;
     }
 
 -- the leaf of such a bud
@@ -120,7 +120,7 @@ reading_inner_leaf places i pairs stack inner e h =
       rise = rise_leaf places i _ e (subst (λ (c : ℕ). IsRise places i c) more h.rise);
       within = h.within;
       opens = (λ g n same. open_step places i _ (n + suc inner) (n + inner) 0 1 (at_leaf places i e) (omega arith) (h.opens g n same));
-      met = h.met
+      met = h.met;
     }
 
 -- a leaf for which no bud waits
@@ -131,7 +131,7 @@ reading_loose places i pairs stack e empty h =
       rise = subst (λ (c : ℕ). IsRise places (suc i) c) (sym none) (rise_loose places i e (subst (λ (c : ℕ). IsRise places i c) none h.rise));
       within = h.within;
       opens = (λ g n same. absurd (omega arith));
-      met = h.met
+      met = h.met;
     }
 
 -- a bracket
@@ -140,7 +140,7 @@ reading_other places i pairs stack inner i_in no_bud no_leaf h = record {
   rise = rise_other places i _ i_in no_bud no_leaf h.rise;
   within = h.within;
   opens = (λ g n same. open_step places i _ (n + inner) (n + inner) 0 0 (at_other places i i_in no_bud no_leaf) (omega arith) (h.opens g n same));
-  met = h.met
+  met = h.met;
 }
 
 pair_same : (places : List ℕ) (p q r t : ℕ) → p ≡ r → q ≡ t → IsPair places p q → IsPair places r t
@@ -178,19 +178,19 @@ reading_bud places i pairs stack e h =
     record {
       rise = subst (λ (c : ℕ). IsRise places (suc i) c) high (rise_bud places i _ e h.rise);
       within = (λ g less. elim (cases_lt g (length stack)) [
-          inl old ↦ let same = push_before stack (length pairs) g old in omega (arith, h.within g old)
+        | inl old ↦ let same = push_before stack (length pairs) g old in omega (arith, h.within g old)
         | inr late ↦ let same = push_top stack (length pairs) g (omega arith) in omega arith
-        ]);
+      ]);
       opens = (λ g n same. opens_push places i pairs stack e h g n (omega arith));
       met = (λ k less. elim (cases_lt k (length pairs)) [
-          inl old ↦ elim (h.met k old) [
-            inl waits ↦ inl (stacked_push stack (length pairs) k waits)
+        | inl old ↦ elim (h.met k old) [
+          | inl waits ↦ inl (stacked_push stack (length pairs) k waits)
           | inr pair ↦ inr (pair_same places _ _ _ _ (sym (bud_at-before pairs (i, 0) k old)) (sym (leaf_at-before pairs (i, 0) k old)) pair)
-          ]
+        ]
         | inr late ↦
             let last : length pairs ≡ k = omega arith in
             inl (record { height = length stack; on_stack = omega arith; is_there = push_top stack (length pairs) (length stack) refl ∙ last })
-        ])
+      ]);
     }
 
 met_below : (stack : List ℕ) (k : ℕ) → k ≢ top_of stack → IsStacked stack k → IsStacked (take (length stack - 1) stack) k
@@ -199,10 +199,10 @@ met_below stack k ne h =
     let less = h.on_stack in
     let shorter = length-take-le (length stack - 1) stack (omega arith) in
     elim (cases_lt h.height (length stack - 1)) [
-      inl low ↦ record { height = h.height; on_stack = omega arith; is_there = get_or-take (length stack - 1) stack h.height 0 low ∙ h.is_there }
-    | inr high ↦
-        let last : h.height ≡ length stack - 1 = omega arith in
-        absurd (ne (sym h.is_there ∙ ap (λ g. slice_index stack g) last))
+      | inl low ↦ record { height = h.height; on_stack = omega arith; is_there = get_or-take (length stack - 1) stack h.height 0 low ∙ h.is_there }
+      | inr high ↦
+          let last : h.height ≡ length stack - 1 = omega arith in
+          absurd (ne (sym h.is_there ∙ ap (λ g. slice_index stack g) last))
     ]
 
 pub top_within : (places : List ℕ) (i : ℕ) (pairs : List (ℕ × ℕ)) (stack : List ℕ) (inner : ℕ) → 0 < length stack → IsReading places i pairs stack inner → top_of stack < length pairs
@@ -224,17 +224,17 @@ reading_meet places i q pairs stack e some h pair =
     record {
       rise = rise_leaf places i _ e (subst (λ (c : ℕ). IsRise places i c) high h.rise);
       within = (λ g less. let low : g < length stack - 1 = omega arith in
-        let same = get_or-take (length stack - 1) stack g 0 low in omega (arith, h.within g (omega arith)));
+          let same = get_or-take (length stack - 1) stack g 0 low in omega (arith, h.within g (omega arith)));
       opens = (λ g n same. let low : g < length stack - 1 = omega arith in
-        let old = get_or-take (length stack - 1) stack g 0 low in
-        let bud = ap (λ k. bud_at (with_leaf pairs (top_of stack) q) k) old ∙ bud_at-with_leaf pairs (top_of stack) q (slice_index stack g) t_in in
-        subst (λ (p : ℕ). IsOpen places (suc i) p (n + 0)) (sym bud) (open_step places i _ (suc n + 0) (n + 0) 0 1 (at_leaf places i e) (omega arith) (h.opens g (suc n) (omega arith))));
+          let old = get_or-take (length stack - 1) stack g 0 low in
+          let bud = ap (λ k. bud_at (with_leaf pairs (top_of stack) q) k) old ∙ bud_at-with_leaf pairs (top_of stack) q (slice_index stack g) t_in in
+          subst (λ (p : ℕ). IsOpen places (suc i) p (n + 0)) (sym bud) (open_step places i _ (suc n + 0) (n + 0) 0 1 (at_leaf places i e) (omega arith) (h.opens g (suc n) (omega arith))));
       met = (λ k less. let same_bud = bud_at-with_leaf pairs (top_of stack) q k t_in in
-        elim (cases_eq k (top_of stack)) [
-          inl same ↦ inr (pair_same places _ _ _ _ (ap (λ j. bud_at pairs j) (sym same) ∙ sym same_bud) (sym (leaf_at-with_leaf pairs (top_of stack) q t_in) ∙ ap (λ j. leaf_at (with_leaf pairs (top_of stack) q) j) (sym same)) pair)
-        | inr ne ↦ elim (h.met k (omega arith)) [
-            inl waits ↦ inl (met_below stack k ne waits)
-          | inr old ↦ inr (pair_same places _ _ _ _ (sym same_bud) (sym (leaf_at-other pairs (top_of stack) q k ne)) old)
-          ]
-        ])
+          elim (cases_eq k (top_of stack)) [
+            | inl same ↦ inr (pair_same places _ _ _ _ (ap (λ j. bud_at pairs j) (sym same) ∙ sym same_bud) (sym (leaf_at-with_leaf pairs (top_of stack) q t_in) ∙ ap (λ j. leaf_at (with_leaf pairs (top_of stack) q) j) (sym same)) pair)
+            | inr ne ↦ elim (h.met k (omega arith)) [
+              | inl waits ↦ inl (met_below stack k ne waits)
+              | inr old ↦ inr (pair_same places _ _ _ _ (sym same_bud) (sym (leaf_at-other pairs (top_of stack) q k ne)) old)
+            ]
+          ]);
     }

@@ -1,11 +1,11 @@
 -- The highest rise of the count of buds and leaves up to a place: how many buds wait there for a leaf.
-use Rattle.std.proofs.Common.{◌≡◌, ◌≢◌, ℕ, zero, suc, ◌+◌, ◌-◌, ◌*◌, ◌<◌, ◌≤◌, Bool, eqb, List, ◌∷◌, length, IsTrue, ◌↔◌, refl, sym, ap, ◌∙◌, subst, ◌⊎◌, inl, inr, arith, eq-eqb, add-one}
+use Rattle.std.proofs.Common.{◌≡◌, ◌≢◌, ℕ, zero, suc, ◌+◌, ◌-◌, ◌<◌, ◌≤◌, eqb, List, length, IsTrue, ◌↔◌, refl, sym, ◌∙◌, subst, inl, inr, arith, add-one}
 use Rattle.std.specs.Prelude.{slice_index}
-use Rattle.std.proofs.lemmas.Bool.{cases_lt, cases_eq, eqb-true}
+use Rattle.std.proofs.lemmas.Bool.{cases_eq, eqb-true}
 use Rattle.pm_trees.specs.declared.letters.TheConstants.{LEAF, BUD}
 use Rattle.pm_trees.specs.Word.{count, contour}
 use Rattle.pm_match.specs.Pair.{IsPair, IsFree, IsBalanced}
-use Rattle.pm_match.proofs.Counts.{letter, buds, leaves, letter-first, letter-second, leaf_in_turns, IsStep, at_bud, at_leaf, at_other, IsStart, start, HasSurplus, surplus_from}
+use Rattle.pm_match.proofs.Counts.{letter, buds, leaves, letter-first, letter-second, at_bud, at_leaf, at_other, HasSurplus, surplus_from}
 use Rattle.pm_match.proofs.Meeting.{IsMeeting, met_after, pair_of_meeting, meeting_of_pair}
 
 -- c is the highest rise from a place up to place i
@@ -27,12 +27,12 @@ rise_bud places i c e h =
     let before = h.foot_before in
     record {
       highest = (λ k near. elim (cases_eq k (suc i)) [
-          inl same ↦ here_is_low places (suc i) k (suc c) same
+        | inl same ↦ here_is_low places (suc i) k (suc c) same
         | inr ne ↦ omega (arith, h.highest k (omega arith), step.more_buds, step.more_leaves)
-        ]);
+      ]);
       foot = h.foot;
       foot_before = omega arith;
-      reached = omega (arith, h.reached, step.more_buds, step.more_leaves)
+      reached = omega (arith, h.reached, step.more_buds, step.more_leaves);
     }
 
 pub rise_leaf : (places : List ℕ) (i c : ℕ) → letter places i ≡ LEAF → IsRise places i (suc c) → IsRise places (suc i) c
@@ -41,12 +41,12 @@ rise_leaf places i c e h =
     let before = h.foot_before in
     record {
       highest = (λ k near. elim (cases_eq k (suc i)) [
-          inl same ↦ here_is_low places (suc i) k c same
+        | inl same ↦ here_is_low places (suc i) k c same
         | inr ne ↦ omega (arith, h.highest k (omega arith), step.more_buds, step.more_leaves)
-        ]);
+      ]);
       foot = h.foot;
       foot_before = omega arith;
-      reached = omega (arith, h.reached, step.more_buds, step.more_leaves)
+      reached = omega (arith, h.reached, step.more_buds, step.more_leaves);
     }
 
 -- a leaf that no bud waits for
@@ -55,12 +55,12 @@ rise_loose places i e h =
     let step = at_leaf places i e in
     record {
       highest = (λ k near. elim (cases_eq k (suc i)) [
-          inl same ↦ here_is_low places (suc i) k 0 same
+        | inl same ↦ here_is_low places (suc i) k 0 same
         | inr ne ↦ omega (arith, h.highest k (omega arith), step.more_buds, step.more_leaves)
-        ]);
+      ]);
       foot = suc i;
       foot_before = omega arith;
-      reached = omega arith
+      reached = omega arith;
     }
 
 pub rise_other : (places : List ℕ) (i c : ℕ) → i < length places + length places → letter places i ≢ BUD → letter places i ≢ LEAF → IsRise places i c → IsRise places (suc i) c
@@ -69,12 +69,12 @@ rise_other places i c i_in no_bud no_leaf h =
     let before = h.foot_before in
     record {
       highest = (λ k near. elim (cases_eq k (suc i)) [
-          inl same ↦ here_is_low places (suc i) k c same
+        | inl same ↦ here_is_low places (suc i) k c same
         | inr ne ↦ omega (arith, h.highest k (omega arith), step.more_buds, step.more_leaves)
-        ]);
+      ]);
       foot = h.foot;
       foot_before = omega arith;
-      reached = omega (arith, h.reached, step.more_buds, step.more_leaves)
+      reached = omega (arith, h.reached, step.more_buds, step.more_leaves);
     }
 
 no_meeting : (places : List ℕ) (r i : ℕ) → IsRise places i 0 → IsMeeting places r i → ⊥

@@ -1,15 +1,14 @@
 -- The turns step by step, in the words of the functions that take the steps.
-use Rattle.std.proofs.Common.{◌≡◌, ◌≢◌, ℕ, zero, suc, ◌+◌, ◌-◌, ◌<◌, ◌≤◌, Bool, true, false, List, [], ◌∷◌, ◌++◌, length, get_or, take, refl, sym, ap, ◌∙◌, subst, arith, add-one}
+use Rattle.std.proofs.Common.{◌≡◌, ◌≢◌, ℕ, suc, ◌+◌, ◌-◌, ◌<◌, ◌≤◌, Bool, true, false, List, [], ◌∷◌, ◌++◌, length, get_or, sym, ◌∙◌, subst, arith, add-one}
 use Rattle.std.specs.Prelude.{slice_index}
 use Rattle.std.specs.Bool.{OnTrue, OnFalse}
 use Rattle.std.proofs.lemmas.List.{get_or_read}
 use Rattle.pm_trees.specs.declared.letters.TheConstants.{LEAF, BUD}
 use Rattle.pm_trees.specs.Word.{count, contour}
-use Rattle.pm_match.specs.Pairing.{Pairs, IsPairing}
-use Rattle.pm_match.specs.Waiting.{with_leaf, top_of, Opens, Meets, Passes}
+use Rattle.pm_match.specs.Pairing.{IsPairing}
+use Rattle.pm_match.specs.Waiting.{Opens, Meets, Passes}
 use Rattle.pm_match.proofs.Counts.{HasSurplus, surplus_from}
 use Rattle.pm_match.proofs.Rise.{IsRise}
-use Rattle.pm_match.proofs.Reading.{IsReading, top_within}
 use Rattle.pm_match.proofs.Turns.{IsFirstTurn, first_none, first_bud, first_meet, first_loose, first_other}
 use Rattle.pm_match.proofs.Completing.{IsSecondTurn, second_none, second_bud, second_inner_leaf, second_meet, second_loose, second_other, two_free, pairing_from, found}
 

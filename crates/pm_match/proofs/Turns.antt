@@ -1,18 +1,15 @@
 -- The two turns along a contour: the first lists the pairs, the second gives the buds that still wait their leaves and
 -- finds the free leaves.
-use Rattle.std.proofs.Common.{◌≡◌, ◌≢◌, ℕ, zero, suc, ◌+◌, ◌-◌, ◌<◌, ◌≤◌, List, [], ◌∷◌, ◌++◌, length, get_or, set, take, refl, sym, ap, ◌∙◌, subst, ◌⊎◌, inl, inr, arith, add-one, Some}
-use Rattle.std.specs.Prelude.{slice_index, slice_get}
+use Rattle.std.proofs.Common.{◌≡◌, ◌≢◌, ℕ, suc, ◌-◌, ◌<◌, ◌≤◌, List, [], ◌∷◌, ◌++◌, length, take, refl, sym, ap, ◌∙◌, subst, ◌⊎◌, inl, inr, arith}
+use Rattle.std.specs.Prelude.{slice_index}
 use Rattle.std.proofs.lemmas.Bool.{cases_lt, cases_eq}
-use Rattle.std.proofs.lemmas.List.{length_push, get_or_push, get_or_append_left, length-take-le}
-use Rattle.std.proofs.lemmas.Option.{slice_get_within, slice_get-get_or, get_or_from_slice_get}
+use Rattle.std.proofs.lemmas.List.{length_push, get_or_push, get_or_append_left}
 use Rattle.pm_trees.specs.declared.letters.TheConstants.{LEAF, BUD}
 use Rattle.pm_match.specs.Pair.{IsPair, IsFree}
 use Rattle.pm_match.specs.Waiting.{bud_at, with_leaf, top_of}
-use Rattle.pm_match.specs.Pairing.{Pairs, IsPairing}
-use Rattle.pm_match.proofs.Counts.{letter, buds, leaves, letter-first, letter-second, bud_within, leaf_within, IsStep, at_bud, at_leaf, at_other, IsSecond, second, HasSurplus}
-use Rattle.pm_match.proofs.Meeting.{IsMeeting, pair_first, pair_second, pair_unique, IsTurned, turned}
-use Rattle.pm_match.proofs.Rise.{IsRise, free_at, pair_at}
-use Rattle.pm_match.proofs.Reading.{leaf_at, bud_at-push, bud_at-before, length-with_leaf, bud_at-with_leaf, IsOpen, open_meets, IsStacked, stacked_push, IsReading, reading_none, reading_bud, reading_meet, reading_loose, reading_other, reading_inner_bud, reading_inner_leaf, top_within, top_opens}
+use Rattle.pm_match.proofs.Counts.{letter, letter-first}
+use Rattle.pm_match.proofs.Meeting.{pair_first}
+use Rattle.pm_match.proofs.Reading.{bud_at-push, bud_at-before, length-with_leaf, bud_at-with_leaf, open_meets, IsStacked, stacked_push, IsReading, reading_none, reading_bud, reading_meet, reading_loose, reading_other, top_within, top_opens}
 
 -- the place of a bud's pair in the list
 pub record IsListedBud (pairs : List (ℕ × ℕ)) (p : ℕ) : Type 0 where
@@ -32,7 +29,7 @@ listed_none places = record {
   few = omega arith;
   before = (λ k less. absurd (omega arith));
   rising = (λ j k less within. absurd (omega arith));
-  every = (λ p less e. absurd (omega arith))
+  every = (λ p less e. absurd (omega arith));
 }
 
 listed_bud : (places : List ℕ) (n : ℕ) (pairs : List (ℕ × ℕ)) → IsListed places n pairs → IsListed places (suc n) (pairs ++ (n, 0) ∷ [])
@@ -43,21 +40,21 @@ listed_bud places n pairs h =
     record {
       few = omega arith;
       before = (λ k less. elim (cases_lt k (length pairs)) [
-          inl old ↦ omega (arith, bud_at-before pairs (n, 0) k old, h.before k old)
+        | inl old ↦ omega (arith, bud_at-before pairs (n, 0) k old, h.before k old)
         | inr late ↦ let same : k ≡ length pairs = omega arith in
             omega (arith, ap (λ i. bud_at (pairs ++ (n, 0) ∷ []) i) same)
-        ]);
+      ]);
       rising = (λ j k less within. elim (cases_lt k (length pairs)) [
-          inl old ↦ omega (arith, bud_at-before pairs (n, 0) k old, bud_at-before pairs (n, 0) j (omega arith), h.rising j k less old)
+        | inl old ↦ omega (arith, bud_at-before pairs (n, 0) k old, bud_at-before pairs (n, 0) j (omega arith), h.rising j k less old)
         | inr late ↦ let same : k ≡ length pairs = omega arith in
             omega (arith, ap (λ i. bud_at (pairs ++ (n, 0) ∷ []) i) same, bud_at-before pairs (n, 0) j (omega arith), h.before j (omega arith))
-        ]);
+      ]);
       every = (λ p less e. elim (cases_eq p n) [
-          inl same ↦ record { index = length pairs; listed = omega arith; same = last ∙ sym same }
+        | inl same ↦ record { index = length pairs; listed = omega arith; same = last ∙ sym same }
         | inr ne ↦ let old = h.every p (omega arith) e in
             let inside = old.listed in
             record { index = old.index; listed = omega arith; same = bud_at-before pairs (n, 0) old.index old.listed ∙ old.same }
-        ])
+      ]);
     }
 
 listed_other : (places : List ℕ) (n : ℕ) (pairs : List (ℕ × ℕ)) → slice_index places n ≢ BUD → IsListed places n pairs → IsListed places (suc n) pairs
@@ -68,9 +65,9 @@ listed_other places n pairs no_bud h =
       before = (λ k less. omega (arith, h.before k less));
       rising = h.rising;
       every = (λ p less e. elim (cases_eq p n) [
-          inl same ↦ absurd (no_bud (ap (λ i. slice_index places i) (sym same) ∙ e))
+        | inl same ↦ absurd (no_bud (ap (λ i. slice_index places i) (sym same) ∙ e))
         | inr ne ↦ h.every p (omega arith) e
-        ])
+      ]);
     }
 
 pub listed_with_leaf : (places : List ℕ) (n t leaf : ℕ) (pairs : List (ℕ × ℕ)) → t < length pairs → IsListed places n pairs → IsListed places n (with_leaf pairs t leaf)
@@ -82,8 +79,8 @@ listed_with_leaf places n t leaf pairs t_in h =
       before = (λ k less. omega (arith, bud_at-with_leaf pairs t leaf k t_in, h.before k (omega arith)));
       rising = (λ j k less within. omega (arith, bud_at-with_leaf pairs t leaf k t_in, bud_at-with_leaf pairs t leaf j t_in, h.rising j k less (omega arith)));
       every = (λ p less e. let old = h.every p less e in
-        let inside = old.listed in
-        record { index = old.index; listed = omega arith; same = bud_at-with_leaf pairs t leaf old.index t_in ∙ old.same })
+          let inside = old.listed in
+          record { index = old.index; listed = omega arith; same = bud_at-with_leaf pairs t leaf old.index t_in ∙ old.same });
     }
 
 -- the state before place i of the first turn
@@ -97,7 +94,7 @@ first_none places = record { reading = reading_none places; listed = listed_none
 pub first_bud : (places : List ℕ) (i : ℕ) (pairs : List (ℕ × ℕ)) (stack : List ℕ) → i < length places → slice_index places i ≡ BUD → IsFirstTurn places i pairs stack → IsFirstTurn places (suc i) (pairs ++ (i, 0) ∷ []) (stack ++ length pairs ∷ [])
 first_bud places i pairs stack i_in e h = record {
   reading = reading_bud places i pairs stack (letter-first places i i_in ∙ e) h.reading;
-  listed = listed_bud places i pairs h.listed
+  listed = listed_bud places i pairs h.listed;
 }
 
 no_bud_at_leaf : (x : ℕ) → x ≡ LEAF → x ≢ BUD
@@ -109,19 +106,19 @@ first_meet places i pairs stack i_in e some h =
     let meeting = open_meets places i _ leaf (top_opens places i pairs stack some h.reading) in
     record {
       reading = reading_meet places i i pairs stack leaf some h.reading (pair_first places _ i meeting i_in);
-      listed = listed_with_leaf places (suc i) (top_of stack) i pairs (top_within places i pairs stack 0 some h.reading) (listed_other places i pairs (no_bud_at_leaf _ e) h.listed)
+      listed = listed_with_leaf places (suc i) (top_of stack) i pairs (top_within places i pairs stack 0 some h.reading) (listed_other places i pairs (no_bud_at_leaf _ e) h.listed);
     }
 
 pub first_loose : (places : List ℕ) (i : ℕ) (pairs : List (ℕ × ℕ)) (stack : List ℕ) → i < length places → slice_index places i ≡ LEAF → length stack ≡ 0 → IsFirstTurn places i pairs stack → IsFirstTurn places (suc i) pairs stack
 first_loose places i pairs stack i_in e none h = record {
   reading = reading_loose places i pairs stack (letter-first places i i_in ∙ e) none h.reading;
-  listed = listed_other places i pairs (no_bud_at_leaf _ e) h.listed
+  listed = listed_other places i pairs (no_bud_at_leaf _ e) h.listed;
 }
 
 pub first_other : (places : List ℕ) (i : ℕ) (pairs : List (ℕ × ℕ)) (stack : List ℕ) → i < length places → slice_index places i ≢ BUD → slice_index places i ≢ LEAF → IsFirstTurn places i pairs stack → IsFirstTurn places (suc i) pairs stack
 first_other places i pairs stack i_in no_bud no_leaf h = record {
   reading = reading_other places i pairs stack 0 (omega arith) (λ e. no_bud (sym (letter-first places i i_in) ∙ e)) (λ e. no_leaf (sym (letter-first places i i_in) ∙ e)) h.reading;
-  listed = listed_other places i pairs no_bud h.listed
+  listed = listed_other places i pairs no_bud h.listed;
 }
 
 -- the free leaves before place q, in rising order
@@ -136,7 +133,7 @@ free_none places = record {
   sound = (λ k less. absurd (omega arith));
   before = (λ k less. absurd (omega arith));
   rising = (λ j k less within. absurd (omega arith));
-  whole = (λ r less e. absurd (omega arith))
+  whole = (λ r less e. absurd (omega arith));
 }
 
 -- a place that is no free leaf
@@ -146,9 +143,9 @@ free_more places q free paired h = record {
   before = (λ k less. omega (arith, h.before k less));
   rising = h.rising;
   whole = (λ r less e. elim (cases_eq r q) [
-      inl same ↦ inl (subst (λ (s : ℕ). (p : ℕ) × IsPair places p s) (sym same) (paired (ap (λ i. slice_index places i) (sym same) ∙ e)))
+    | inl same ↦ inl (subst (λ (s : ℕ). (p : ℕ) × IsPair places p s) (sym same) (paired (ap (λ i. slice_index places i) (sym same) ∙ e)))
     | inr ne ↦ h.whole r (omega arith) e
-    ])
+  ]);
 }
 
 pub free_push : (places : List ℕ) (q : ℕ) (free : List ℕ) → IsFree places q → IsFreeList places q free → IsFreeList places (suc q) (free ++ q ∷ [])
@@ -158,19 +155,19 @@ free_push places q free is_free h =
     let last_at = λ (k : ℕ) (e : length free ≡ k). get_or_push free q 0 k e in
     record {
       sound = (λ k less. elim (cases_lt k (length free)) [
-          inl old ↦ subst (λ (s : ℕ). IsFree places s) (sym (old_at k old)) (h.sound k old)
+        | inl old ↦ subst (λ (s : ℕ). IsFree places s) (sym (old_at k old)) (h.sound k old)
         | inr late ↦ subst (λ (s : ℕ). IsFree places s) (sym (last_at k (omega arith))) is_free
-        ]);
+      ]);
       before = (λ k less. elim (cases_lt k (length free)) [
-          inl old ↦ omega (arith, old_at k old, h.before k old)
+        | inl old ↦ omega (arith, old_at k old, h.before k old)
         | inr late ↦ omega (arith, last_at k (omega arith))
-        ]);
+      ]);
       rising = (λ j k less within. elim (cases_lt k (length free)) [
-          inl old ↦ omega (arith, old_at k old, old_at j (omega arith), h.rising j k less old)
+        | inl old ↦ omega (arith, old_at k old, old_at j (omega arith), h.rising j k less old)
         | inr late ↦ omega (arith, last_at k (omega arith), old_at j (omega arith), h.before j (omega arith))
-        ]);
+      ]);
       whole = (λ r less e. elim (cases_eq r q) [
-          inl same ↦ inr (record { height = length free; on_stack = omega arith; is_there = last_at (length free) refl ∙ sym same })
+        | inl same ↦ inr (record { height = length free; on_stack = omega arith; is_there = last_at (length free) refl ∙ sym same })
         | inr ne ↦ elim (h.whole r (omega arith) e) [ inl pair ↦ inl pair | inr there ↦ inr (stacked_push free q r there) ]
-        ])
+      ]);
     }

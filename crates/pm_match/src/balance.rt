@@ -47,3 +47,27 @@ fn find_plant_bud(letters: &[u8]) -> Option<u32>
     }
     None
 }
+
+/// The place of the bud that the plant is paired with, or `None` where the tree is balanced.
+pub fn plant_bud(tree: &Tree) -> Option<u32>
+    ensures { MatchOption result
+        (IsBalanced (contour tree.now))
+        (λ place. IsPair (contour tree.now) place 0) }
+{
+    find_plant_bud(tree.letters())
+}
+
+#[cfg(test)]
+mod tests {
+    use super::*;
+
+    #[test]
+    fn plants_of_words(rt: HostRuntime) {
+        assert!(rt; is_plant_free(b"b(bll)l"));
+        assert!(rt; is_plant_free(b"lbl"));
+        assert!(rt; !is_plant_free(b"llb"));
+        assert_eq!(rt; find_plant_bud(b"b(bll)l"), None);
+        assert_eq!(rt; find_plant_bud(b"lbl"), None);
+        assert_eq!(rt; find_plant_bud(b"llb"), Some(3));
+    }
+}

@@ -4,5 +4,5 @@
 mod balance;
 mod pairing;
 
-pub use balance::is_balanced;
+pub use balance::{is_balanced, plant_bud};
 pub use pairing::{Pairing, matching};

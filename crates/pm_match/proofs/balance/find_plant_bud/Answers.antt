@@ -1,7 +1,5 @@
 -- Each letter changes the number of leaves that are left.
-use Rattle.std.proofs.Common.{◌≡◌, ℕ, suc, ◌+◌, ◌-◌, ◌<◌, ◌≤◌, List, length, sym, subst, arith, add-one}
-use Rattle.pm_trees.specs.Word.{contour}
-use Rattle.pm_match.specs.Pair.{IsPair}
+use Rattle.std.proofs.Common.{◌≡◌, ℕ, suc, ◌-◌, ◌<◌, List, subst, arith, add-one}
 use Rattle.pm_match.proofs.Backwards.{IsReadBack, back_none, back_leaf, back_bud, back_other, back_meets, back_free}
 use Rattle.pm_match.proofs.balance.find_plant_bud.Goals as goal
 

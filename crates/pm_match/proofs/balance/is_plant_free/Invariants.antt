@@ -1,6 +1,4 @@
 -- As many buds wait as the counts have risen at most, and no more than letters were read.
-use Rattle.std.proofs.Common.{suc, ◌≤◌}
-use Rattle.pm_trees.specs.Word.{contour}
 use Rattle.pm_match.proofs.Rise.{IsWaiting}
 use Rattle.pm_match.proofs.balance.is_plant_free.Given as goal
 

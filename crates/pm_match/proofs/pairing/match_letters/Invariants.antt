@@ -1,5 +1,5 @@
 -- The state before a place of each turn.
-use Rattle.std.proofs.Common.{◌≡◌, ℕ, suc, length}
+use Rattle.std.proofs.Common.{length}
 use Rattle.pm_trees.specs.Word.{contour}
 use Rattle.pm_match.proofs.Turns.{IsFirstTurn}
 use Rattle.pm_match.proofs.Completing.{IsSecondTurn}

@@ -1,5 +1,5 @@
 -- What was popped is the index at the top of the stack.
-use Rattle.std.proofs.Common.{◌≡◌, ℕ, ◌+◌, ◌-◌, ◌<◌, ◌≤◌, List, [], ◌∷◌, ◌++◌, length, get_or, take, refl, sym, ap, ◌∙◌, subst, arith, set}
+use Rattle.std.proofs.Common.{◌≡◌, ℕ, ◌-◌, ◌<◌, List, [], ◌∷◌, ◌++◌, length, get_or, take, sym, ap, ◌∙◌, subst, arith, set}
 use Rattle.std.proofs.lemmas.List.{get_or_read, get_or_push, length_push, take_at}
 use Rattle.pm_match.specs.Waiting.{bud_at, with_leaf, top_of}
 use Rattle.pm_match.proofs.pairing.meet.Goals as goal
@@ -16,7 +16,7 @@ push_top rest index =
     record {
       some = omega arith;
       top = get_or_push rest index 0 (length (rest ++ index ∷ []) - 1) (omega arith);
-      below = sym (take_at rest (index ∷ []) (length (rest ++ index ∷ []) - 1) (omega arith))
+      below = sym (take_at rest (index ∷ []) (length (rest ++ index ∷ []) - 1) (omega arith));
     }
 
 top_is : (stack rest : List ℕ) (index : ℕ) → stack ≡ rest ++ index ∷ [] → IsTop stack rest index
