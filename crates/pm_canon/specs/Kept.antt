@@ -28,7 +28,7 @@ pub record MarksDarts (marks : List Bool) (darts : List ℕ) : Type 0 where
 pub record IsKept (s : Structure) (marks : List Bool) (darts : List ℕ) : Type 0 where
   pub once : HasEachOnce s.darts darts
   pub whole : IsWhole s darts
-  pub marks : MarksDarts marks darts
+  pub marking : MarksDarts marks darts
 
 -- the list has the darts of some vertices behind those it had
 pub record AppendsVertex (s : Structure) (start : ℕ) (old new : List ℕ) : Type 0 where
