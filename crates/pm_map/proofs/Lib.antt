@@ -1,1 +1,5 @@
+pub mod CanonicalNames
+pub mod CarriedMeeting
 pub mod StandsLemmas
+pub mod UniqueMeeting
+pub mod WholeMeeting

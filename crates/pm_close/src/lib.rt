@@ -1,0 +1,2 @@
+//! The closing of blossoming trees.
+#![tactic(auto)]
