@@ -1,7 +1,9 @@
 -- Lists in which each dart stands once, and marks, with one dart more.
-use Rattle.std.proofs.Common.{◌≡◌, ◌≢◌, ℕ, ◌+◌, ◌-◌, ◌<◌, ◌≤◌, ◌⊎◌, inl, inr, Bool, true, false, List, [], ◌∷◌, ◌++◌, length, get_or, set, refl, sym, ◌∙◌, ap, subst, arith, length-append}
+use Rattle.std.proofs.Common.{◌≡◌, ◌≢◌, ℕ, ◌+◌, ◌-◌, ◌<◌, ◌≤◌, ◌⊎◌, inl, inr, Bool, true, false, List, [], ◌∷◌, ◌++◌, length, get_or, set, Some, refl, sym, ◌∙◌, ap, subst, arith, length-append}
 use Rattle.std.proofs.lemmas.List.{get_or_append_left, get_or_push, get_or-set_same, get_or-set_other, length_push}
-use Rattle.std.proofs.lemmas.Bool.{cases_lt, cases_eq}
+use Rattle.std.specs.List.{slice_get}
+use Rattle.std.proofs.lemmas.Option.{get_or_from_slice_get}
+use Rattle.std.proofs.lemmas.Bool.{cases_lt, cases_eq, false≢true}
 use Rattle.pm_perm.proofs.Pigeonhole.{Places, Places-le}
 use Rattle.pm_map.specs.Meeting.{StandsAt, Stands}
 use Rattle.pm_map.proofs.StandsLemmas.{Stands-push, Stands-append_left, cases_push}
@@ -49,3 +51,7 @@ MarksDarts-push marks darts d m within =
         | inr other ↦ Stands-append_left darts (d ∷ []) e (m.stands e (sym (get_or-set_other marks d e true false other) ∙ is))
         ];
     }
+
+-- a dart that isn't marked doesn't stand in the list
+pub MarksDarts-unmarked : (marks : List Bool) (darts : List ℕ) (d : ℕ) → MarksDarts marks darts → slice_get marks d ≡ Some false → Stands darts d → ⊥
+MarksDarts-unmarked marks darts d m unmarked s = false≢true (sym (get_or_from_slice_get marks d false false unmarked) ∙ m.marked d s)

@@ -167,3 +167,14 @@ IsWalking-appended s old start marks darts w = record { vertex = w.way; is_verte
 -- a walk has no more darts than there are
 pub IsWalking-once : (s : Structure) (old : List ℕ) (start : ℕ) (marks : List Bool) (darts : List ℕ) (dart : ℕ) → IsWalking s old start marks darts dart → HasEachOnce s.darts darts
 IsWalking-once s old start marks darts dart w = subst (λ l. HasEachOnce s.darts l) (sym w.order) w.once
+
+-- the dart that comes next is a dart
+pub IsWalking-below : (s : Structure) (old : List ℕ) (start : ℕ) (marks : List Bool) (darts : List ℕ) (dart : ℕ) → IsPermutationBelow s.darts s.next
+    → IsWalking s old start marks darts dart → dart < s.darts
+IsWalking-below s old start marks darts dart perm w =
+    let some : 0 < length w.way = w.is_way.some in
+    let size : length (old ++ w.way) ≡ length old + length w.way = length-append old w.way in
+    let place : ℕ = length w.way - 1 in
+    let here : get_or (old ++ w.way) (length old + place) 0 < s.darts = w.once.stays (length old + place) (omega arith) in
+    let last : get_or w.way place 0 < s.darts = subst (λ x. x < s.darts) (get_or-append-add old w.way place 0) here in
+    subst (λ x. x < s.darts) w.is_way.leads (perm.stays (get_or w.way place 0) last)
