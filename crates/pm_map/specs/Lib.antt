@@ -1,4 +1,5 @@
 pub mod Canonical
+pub mod CanonicalLaws
 pub mod Meeting
 pub mod Rotation
 pub mod Structure
