@@ -1,2 +1,5 @@
 pub mod KeptLemmas
+pub mod MeetingLemmas
+pub mod MentionLemmas
+pub mod NamingLemmas
 pub mod WalkLemmas

@@ -1,7 +1,7 @@
 -- What a list of darts keeps while whole vertices are appended to it.
-use Rattle.std.specs.Prelude.{◌≡◌, ℕ, ◌<◌, Bool, false, IsTrue, List, ◌++◌, length, slice_index, slice_index_or}
+use Rattle.std.specs.Prelude.{◌≡◌, ℕ, ◌<◌, ◌≤◌, Bool, false, IsTrue, List, ◌++◌, length, slice_index, slice_index_or}
 use Rattle.pm_map.specs.Structure.{Structure}
-use Rattle.pm_map.specs.Meeting.{Stands, IsVertexFrom, IsMeetingList, darts_of}
+use Rattle.pm_map.specs.Meeting.{Stands, IsVertexFrom, Meets, IsMeetingList, darts_of}
 
 -- the list has darts below the bound, and none of them twice
 pub record HasEachOnce (bound : ℕ) (darts : List ℕ) : Type 0 where
@@ -35,6 +35,15 @@ pub record AppendsVertex (s : Structure) (start : ℕ) (old new : List ℕ) : Ty
   pub vertex : List ℕ
   pub is_vertex : IsVertexFrom s start vertex
   pub order : new ≡ old ++ vertex
+
+-- the list has the darts of the vertices met so far, and holds the twins of its first darts, up to this place
+pub record IsMeeting (s : Structure) (marks : List Bool) (darts : List ℕ) (place : ℕ) : Type 0 where
+  pub vertices : List (List ℕ)
+  pub meets : Meets s vertices
+  pub order : darts ≡ darts_of vertices
+  pub within : place ≤ length darts
+  pub twins : (k : ℕ) → k < place → Stands darts (s.twin (slice_index darts k))
+  pub kept : IsKept s marks darts
 
 -- the list is the meeting list, and has each dart once
 pub record IsMeetingOrder (s : Structure) (darts : List ℕ) : Type 0 where

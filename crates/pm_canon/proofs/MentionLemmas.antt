@@ -1,0 +1,73 @@
+-- First mentions in a list with one dart more.
+use Rattle.std.proofs.Common.{◌≡◌, ℕ, zero, suc, ◌+◌, ◌-◌, ◌*◌, ◌%◌, ◌<◌, ◌≤◌, ◌⊎◌, inl, inr, Bool, true, false, cond, ◌||◌, ◌==◌, List, [], ◌∷◌, ◌++◌, length, get_or, refl, sym, ◌∙◌, ap, subst, arith}
+use Rattle.std.specs.List.{list_any}
+use Rattle.std.proofs.lemmas.Bool.{cases_lt, cases_eq, cases_Bool, or_cases, or_left, or_right, or_parts, or_from, false_from_ne_true}
+use Rattle.pm_map.specs.Rotation.{twin}
+use Rattle.pm_map.specs.Canonical.{first_mentions_after, first_mentions}
+use Rattle.pm_map.specs.Meeting.{StandsAt, Stands}
+use Rattle.pm_map.proofs.WholeMeeting.{test_from_stands, stands_from_test, stands-cons}
+use Rattle.pm_map.proofs.CanonicalNames.{first_mentions_after-seen, first_mentions_after-new}
+
+pub twin-twin : (d : ℕ) → twin (twin d) ≡ d
+twin-twin d = omega arith
+
+pub twin-other : (d : ℕ) → twin d ≡ d → ⊥
+twin-other d e = omega arith
+
+-- the twin stands in one of the two lists
+abbrev IsSeen : List ℕ → List ℕ → ℕ → Type 0
+IsSeen before darts d = (list_any (λ e. e == twin d) before ≡ true) ⊎ (list_any (λ e. e == twin d) darts ≡ true)
+
+seen_later : (before : List ℕ) (x : ℕ) (darts : List ℕ) (d : ℕ) → IsSeen before (x ∷ darts) d → IsSeen (x ∷ before) darts d
+seen_later before x darts d seen =
+    elim seen [
+      inl early ↦ inl (or_right (x == twin d) (list_any (λ e. e == twin d) before) early)
+    | inr late ↦ elim (or_cases (x == twin d) (list_any (λ e. e == twin d) darts) late) [
+        inl here ↦ inl (or_left (x == twin d) (list_any (λ e. e == twin d) before) here)
+      | inr later ↦ inr later
+      ]
+    ]
+
+-- a dart whose twin stands before it adds no mention
+push_seen : (before darts : List ℕ) (d : ℕ) → IsSeen before darts d → first_mentions_after before (darts ++ d ∷ []) ≡ first_mentions_after before darts
+push_seen before [] d seen =
+    elim seen [
+      inl early ↦ first_mentions_after-seen before d [] early
+    | inr late ↦ cc
+    ]
+push_seen before (x ∷ darts) d seen =
+    ap (λ l. cond (list_any (λ e. e == twin x) before) l (x ∷ l)) (push_seen (x ∷ before) darts d (seen_later before x darts d seen))
+
+cond_push : (b : Bool) (x d : ℕ) (l : List ℕ) → cond b (l ++ d ∷ []) (x ∷ (l ++ d ∷ [])) ≡ cond b l (x ∷ l) ++ d ∷ []
+cond_push true x d l = refl
+cond_push false x d l = refl
+
+-- a dart whose twin doesn't stand before it is a mention
+push_new : (before darts : List ℕ) (d : ℕ) → list_any (λ e. e == twin d) before ≡ false → list_any (λ e. e == twin d) darts ≡ false
+    → first_mentions_after before (darts ++ d ∷ []) ≡ first_mentions_after before darts ++ d ∷ []
+push_new before [] d early late = first_mentions_after-new before d [] early
+push_new before (x ∷ darts) d early late =
+    let parts = or_parts (x == twin d) (list_any (λ e. e == twin d) darts) late in
+    ap (λ l. cond (list_any (λ e. e == twin x) before) l (x ∷ l)) (push_new (x ∷ before) darts d (or_from (x == twin d) (list_any (λ e. e == twin d) before) parts.0 early) parts.1)
+    ∙ cond_push (list_any (λ e. e == twin x) before) x d (first_mentions_after (x ∷ before) darts)
+
+pub first_mentions-seen : (darts : List ℕ) (d : ℕ) → Stands darts (twin d) → first_mentions (darts ++ d ∷ []) ≡ first_mentions darts
+first_mentions-seen darts d stands = push_seen [] darts d (inr (test_from_stands darts (twin d) stands))
+
+pub first_mentions-new : (darts : List ℕ) (d : ℕ) → (Stands darts (twin d) → ⊥) → first_mentions (darts ++ d ∷ []) ≡ first_mentions darts ++ d ∷ []
+first_mentions-new darts d unseen = push_new [] darts d refl (false_from_ne_true (list_any (λ e. e == twin d) darts) (λ e. unseen (stands_from_test darts (twin d) e)))
+
+-- mentions are darts of the list
+mention_stands : (before darts : List ℕ) (k : ℕ) → k < length (first_mentions_after before darts) → Stands darts (get_or (first_mentions_after before darts) k 0)
+mention_stands before [] k h = absurd (omega arith)
+mention_stands before (x ∷ darts) k h =
+    at_head (list_any (λ e. e == twin x) before) k h
+  where
+  at_head : (b : Bool) (k : ℕ) → k < length (cond b (first_mentions_after (x ∷ before) darts) (x ∷ first_mentions_after (x ∷ before) darts))
+      → Stands (x ∷ darts) (get_or (cond b (first_mentions_after (x ∷ before) darts) (x ∷ first_mentions_after (x ∷ before) darts)) k 0)
+  at_head true k h = stands-cons x darts (get_or (first_mentions_after (x ∷ before) darts) k 0) (mention_stands (x ∷ before) darts k h)
+  at_head false zero h = (0, record { within = omega arith; here = refl })
+  at_head false (suc k) h = stands-cons x darts (get_or (first_mentions_after (x ∷ before) darts) k 0) (mention_stands (x ∷ before) darts k (omega arith))
+
+pub first_mentions-stands : (darts : List ℕ) (k : ℕ) → k < length (first_mentions darts) → Stands darts (get_or (first_mentions darts) k 0)
+first_mentions-stands darts k h = mention_stands [] darts k h
