@@ -58,16 +58,16 @@ pub first_mentions-new : (darts : List ℕ) (d : ℕ) → (Stands darts (twin d)
 first_mentions-new darts d unseen = push_new [] darts d refl (false_from_ne_true (list_any (λ e. e == twin d) darts) (λ e. unseen (stands_from_test darts (twin d) e)))
 
 -- mentions are darts of the list
+head_stands : (x : ℕ) (darts later : List ℕ) (b : Bool) → ((k : ℕ) → k < length later → Stands darts (get_or later k 0))
+    → (k : ℕ) → k < length (cond b later (x ∷ later)) → Stands (x ∷ darts) (get_or (cond b later (x ∷ later)) k 0)
+head_stands x darts later true stand k h = stands-cons x darts (get_or later k 0) (stand k h)
+head_stands x darts later false stand zero h = (0, record { within = omega arith; here = refl })
+head_stands x darts later false stand (suc k) h = stands-cons x darts (get_or later k 0) (stand k (omega arith))
+
 mention_stands : (before darts : List ℕ) (k : ℕ) → k < length (first_mentions_after before darts) → Stands darts (get_or (first_mentions_after before darts) k 0)
 mention_stands before [] k h = absurd (omega arith)
 mention_stands before (x ∷ darts) k h =
-    at_head (list_any (λ e. e == twin x) before) k h
-  where
-  at_head : (b : Bool) (k : ℕ) → k < length (cond b (first_mentions_after (x ∷ before) darts) (x ∷ first_mentions_after (x ∷ before) darts))
-      → Stands (x ∷ darts) (get_or (cond b (first_mentions_after (x ∷ before) darts) (x ∷ first_mentions_after (x ∷ before) darts)) k 0)
-  at_head true k h = stands-cons x darts (get_or (first_mentions_after (x ∷ before) darts) k 0) (mention_stands (x ∷ before) darts k h)
-  at_head false zero h = (0, record { within = omega arith; here = refl })
-  at_head false (suc k) h = stands-cons x darts (get_or (first_mentions_after (x ∷ before) darts) k 0) (mention_stands (x ∷ before) darts k (omega arith))
+    head_stands x darts (first_mentions_after (x ∷ before) darts) (list_any (λ e. e == twin x) before) (mention_stands (x ∷ before) darts) k h
 
 pub first_mentions-stands : (darts : List ℕ) (k : ℕ) → k < length (first_mentions darts) → Stands darts (get_or (first_mentions darts) k 0)
 first_mentions-stands darts k h = mention_stands [] darts k h
