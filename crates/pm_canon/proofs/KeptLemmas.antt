@@ -1,6 +1,6 @@
 -- Lists in which each dart stands once, and marks, with one dart more.
-use Rattle.std.proofs.Common.{◌≡◌, ◌≢◌, ℕ, ◌+◌, ◌-◌, ◌<◌, ◌≤◌, ◌⊎◌, inl, inr, Bool, true, false, List, [], ◌∷◌, ◌++◌, length, get_or, set, Some, refl, sym, ◌∙◌, ap, subst, arith, length-append}
-use Rattle.std.proofs.lemmas.List.{get_or_append_left, get_or_push, get_or-set_same, get_or-set_other, length_push}
+use Rattle.std.proofs.Common.{◌≡◌, ◌≢◌, ℕ, ◌+◌, ◌-◌, ◌<◌, ◌≤◌, ◌⊎◌, inl, inr, Bool, true, false, List, [], ◌∷◌, ◌++◌, length, get_or, set, take, Some, refl, sym, ◌∙◌, ap, subst, arith, length-append}
+use Rattle.std.proofs.lemmas.List.{get_or_append_left, get_or_push, get_or-set_same, get_or-set_other, length_push, length-take-le, get_or-take}
 use Rattle.std.specs.List.{slice_get}
 use Rattle.std.proofs.lemmas.Option.{get_or_from_slice_get}
 use Rattle.std.proofs.lemmas.Bool.{cases_lt, cases_eq, false≢true}
@@ -55,3 +55,11 @@ MarksDarts-push marks darts d m within =
 -- a dart that isn't marked doesn't stand in the list
 pub MarksDarts-unmarked : (marks : List Bool) (darts : List ℕ) (d : ℕ) → MarksDarts marks darts → slice_get marks d ≡ Some false → Stands darts d → ⊥
 MarksDarts-unmarked marks darts d m unmarked s = false≢true (sym (get_or_from_slice_get marks d false false unmarked) ∙ m.marked d s)
+
+-- a dart doesn't stand before its place
+pub HasEachOnce-fresh : (bound : ℕ) (darts : List ℕ) (place : ℕ) → HasEachOnce bound darts → place < length darts → Stands (take place darts) (get_or darts place 0) → ⊥
+HasEachOnce-fresh bound darts place once within s =
+    let before : s.0 < length (take place darts) = s.1.within in
+    let size : length (take place darts) ≡ place = length-take-le place darts (omega arith) in
+    let same : s.0 ≡ place = once.injective s.0 place (omega arith) within (sym (get_or-take place darts s.0 0 (omega arith)) ∙ s.1.here) in
+    omega arith

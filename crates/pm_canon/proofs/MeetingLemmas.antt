@@ -1,6 +1,8 @@
 -- The vertices met so far, with one vertex more, and at the end.
-use Rattle.std.proofs.Common.{◌≡◌, ℕ, zero, suc, ◌+◌, ◌-◌, ◌<◌, ◌≤◌, ◌⊎◌, inl, inr, Bool, true, false, List, [], ◌∷◌, ◌++◌, length, get_or, replicate, refl, sym, ◌∙◌, ap, subst, arith, add-one, length-append}
+use Rattle.std.proofs.Common.{◌≡◌, ℕ, zero, suc, ◌+◌, ◌-◌, ◌<◌, ◌≤◌, ◌⊎◌, inl, inr, Bool, true, false, List, [], ◌∷◌, ◌++◌, length, get_or, replicate, Some, refl, sym, ◌∙◌, ap, subst, arith, add-one, length-append}
 use Rattle.std.proofs.lemmas.List.{get_or_append_left, append-nil, get_or-replicate, get_or_past, length-replicate}
+use Rattle.std.specs.List.{slice_get}
+use Rattle.std.proofs.lemmas.Option.{slice_get-get_or}
 use Rattle.std.proofs.lemmas.Bool.{cases_lt, cases_eq, false≢true}
 use Rattle.pm_map.specs.Structure.{Structure, IsStructure, IsConnected}
 use Rattle.pm_map.specs.Meeting.{StandsAt, Stands, IsVertexFrom, IsNextUnmet, darts_of, Meets, at_root, onward, IsMeetingList, no_dart, complete}
@@ -103,3 +105,7 @@ IsMeetingOrder-none s none = record {
   once = record { stays = λ k h. absurd (omega arith); injective = λ j k hj hk e. absurd (omega arith) };
   all = λ d h. absurd (omega arith);
 }
+
+pub unmarked_at : (marks : List Bool) (n d : ℕ) → marks ≡ replicate n false → d < n → slice_get marks d ≡ Some false
+unmarked_at marks n d is below =
+    slice_get-get_or marks d false (omega (arith, ap length is, length-replicate n false)) ∙ ap Some (ap (λ l. get_or l d false) is ∙ false_stays n d)

@@ -71,3 +71,21 @@ mention_stands before (x ∷ darts) k h =
 
 pub first_mentions-stands : (darts : List ℕ) (k : ℕ) → k < length (first_mentions darts) → Stands darts (get_or (first_mentions darts) k 0)
 first_mentions-stands darts k h = mention_stands [] darts k h
+
+head_length : (b : Bool) (x : ℕ) (later : List ℕ) → length (cond b later (x ∷ later)) ≤ length later + 1
+head_length true x later = omega arith
+head_length false x later = omega arith
+
+mention_length : (before darts : List ℕ) → length (first_mentions_after before darts) ≤ length darts
+mention_length before [] = omega arith
+mention_length before (x ∷ darts) =
+    let later : length (first_mentions_after (x ∷ before) darts) ≤ length darts = mention_length (x ∷ before) darts in
+    let head : length (first_mentions_after before (x ∷ darts)) ≤ length (first_mentions_after (x ∷ before) darts) + 1 = head_length (list_any (λ e. e == twin x) before) x (first_mentions_after (x ∷ before) darts) in
+    omega arith
+
+pub first_mentions-length : (darts : List ℕ) → length (first_mentions darts) ≤ length darts
+first_mentions-length darts = mention_length [] darts
+
+-- the twin of a dart below an even bound is below it
+pub twin_below : (bound d : ℕ) → bound % 2 ≡ 0 → d < bound → twin d < bound
+twin_below bound d even below = omega arith
