@@ -1,3 +1,4 @@
+pub mod CanonLemmas
 pub mod KeptLemmas
 pub mod MeetingLemmas
 pub mod MentionLemmas
