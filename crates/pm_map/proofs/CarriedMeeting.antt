@@ -1,12 +1,12 @@
 -- A renumbering carries the meeting list of the one structure to that of the other.
-use Rattle.std.proofs.Common.{◌≡◌, ◌≢◌, ℕ, zero, suc, ◌+◌, ◌-◌, ◌<◌, ◌≤◌, List, [], ◌∷◌, ◌++◌, map, length, slice_get, slice_index, Some, refl, sym, ap, ◌∙◌, subst, ◌⊎◌, inl, inr, append_assoc, append-nil, length-append, arith}
+use Rattle.std.proofs.Common.{◌≡◌, ℕ, zero, suc, ◌-◌, ◌<◌, List, [], ◌∷◌, ◌++◌, map, length, slice_index, Some, refl, sym, ap, ◌∙◌, subst, inl, inr, append_assoc, append-nil, length-append, arith}
 use Rattle.std.proofs.lemmas.Bool.{cases_lt}
-use Rattle.std.proofs.lemmas.List.{length-map, get_or-map, map-append, get_or_append_left, get_or-append_right, get_or-append-add}
+use Rattle.std.proofs.lemmas.List.{length-map, get_or-map, map-append, get_or_append_left, get_or-append_right}
 use Rattle.std.proofs.lemmas.Option.{slice_get-get_or}
 use Rattle.pm_perm.specs.Permutation.{IsPermutationBelow}
 use Rattle.pm_map.specs.Structure.{Structure, IsStructure, CarriesTo}
 use Rattle.pm_map.specs.Meeting.{StandsAt, Stands, IsVertexFrom, IsNextUnmet, darts_of, Meets, at_root, onward, IsMeetingList, no_dart, complete}
-use Rattle.pm_map.proofs.UniqueMeeting.{vertex_begins, meets_some}
+use Rattle.pm_map.proofs.UniqueMeeting.{vertex_begins}
 
 -- the darts in the list are below the bound
 pub record AreBelow (bound : ℕ) (darts : List ℕ) : Type 0 where
@@ -15,12 +15,12 @@ pub record AreBelow (bound : ℕ) (darts : List ℕ) : Type 0 where
 pub AreBelow-append : (bound : ℕ) (xs ys : List ℕ) → AreBelow bound xs → AreBelow bound ys → AreBelow bound (xs ++ ys)
 AreBelow-append bound xs ys bx by' = record {
   below = λ k h.
-    elim (cases_lt k (length xs)) [
-      inl first ↦ subst (λ x. x < bound) (sym (get_or_append_left xs ys 0 k first)) (bx.below k first)
-    | inr later ↦
-      let within : k - length xs < length ys = omega (arith, length-append xs ys) in
-      subst (λ x. x < bound) (sym (get_or-append_right xs ys (length xs) k 0 refl later)) (by'.below (k - length xs) within)
-    ]
+      elim (cases_lt k (length xs)) [
+        | inl first ↦ subst (λ x. x < bound) (sym (get_or_append_left xs ys 0 k first)) (bx.below k first)
+        | inr later ↦
+            let within : k - length xs < length ys = omega (arith, length-append xs ys) in
+            subst (λ x. x < bound) (sym (get_or-append_right xs ys (length xs) k 0 refl later)) (by'.below (k - length xs) within)
+      ];
 }
 
 -- a dart that stands in such a list is below the bound
@@ -71,11 +71,13 @@ stands_carried f darts d stands = (stands.0, stands_at_carried f darts stands.0 
 pub stands_back : (f : ℕ → ℕ) (bound : ℕ) (darts : List ℕ) (d : ℕ) → IsPermutationBelow bound f → AreBelow bound darts → d < bound → Stands (map f darts) (f d) → Stands darts d
 stands_back f bound darts d renumbers all h stands =
     let mapped : stands.0 < length (map f darts) = (stands.1).within in
-    let within : stands.0 < length darts = omega (arith, length-map darts f) in
-    (stands.0, record {
-      within = within;
-      here = renumbers.injective (slice_index darts stands.0) d (all.below stands.0 within) h (sym (map_at f darts stands.0 within) ∙ (stands.1).here);
-    })
+    let within : stands.0 < length darts = omega (arith, length-map darts f) in (
+      stands.0,
+      record {
+        within = within;
+        here = renumbers.injective (slice_index darts stands.0) d (all.below stands.0 within) h (sym (map_at f darts stands.0 within) ∙ (stands.1).here);
+      },
+    )
 
 -- a renumbering carries a vertex to a vertex
 pub vertex_carried : (f : ℕ → ℕ) (a b : Structure) (d : ℕ) (vertex : List ℕ) → CarriesTo f a b → IsStructure a → d < a.darts → IsVertexFrom a d vertex → IsVertexFrom b (f d) (map f vertex)
@@ -87,15 +89,15 @@ vertex_carried f a b d vertex carries structure h is =
     record {
       begins = slice_get-get_or (map f vertex) 0 0 (omega arith) ∙ ap Some (map_at f vertex 0 some ∙ ap f (vertex_begins a d vertex is).1);
       goes = λ k within.
-        let here : suc k < length vertex = omega arith in
-        let before : k < length vertex = omega arith in
-        map_at f vertex (suc k) here ∙ ap f (is.goes k here) ∙ carries.next (slice_index vertex k) (all.below k before) ∙ ap b.next (sym (map_at f vertex k before));
+          let here : suc k < length vertex = omega arith in
+          let before : k < length vertex = omega arith in
+          map_at f vertex (suc k) here ∙ ap f (is.goes k here) ∙ carries.next (slice_index vertex k) (all.below k before) ∙ ap b.next (sym (map_at f vertex k before));
       ends =
-        ap (λ n. b.next (slice_index (map f vertex) (n - 1))) same ∙ ap b.next (map_at f vertex (length vertex - 1) last)
-        ∙ sym (carries.next (slice_index vertex (length vertex - 1)) (all.below (length vertex - 1) last)) ∙ ap f is.ends;
+          ap (λ n. b.next (slice_index (map f vertex) (n - 1))) same ∙ ap b.next (map_at f vertex (length vertex - 1) last)
+          ∙ sym (carries.next (slice_index vertex (length vertex - 1)) (all.below (length vertex - 1) last)) ∙ ap f is.ends;
       once = λ k within again.
-        let here : suc k < length vertex = omega arith in
-        is.once k here (carries.renumbers.injective (slice_index vertex (suc k)) d (all.below (suc k) here) h (sym (map_at f vertex (suc k) here) ∙ again));
+          let here : suc k < length vertex = omega arith in
+          is.once k here (carries.renumbers.injective (slice_index vertex (suc k)) d (all.below (suc k) here) h (sym (map_at f vertex (suc k) here) ∙ again));
     }
 
 -- and the first dart whose twin isn't met to the first dart whose twin isn't met
@@ -106,13 +108,13 @@ next_unmet_carried f a b darts d carries structure all is =
       place = is.place;
       at = stands_at_carried f darts is.place d is.at;
       unmet = λ stands.
-        is.unmet (stands_back f a.darts darts (a.twin d) carries.renumbers all (structure.twin_stays d h) (subst (Stands (map f darts)) (sym (carries.twin d h)) stands));
+          is.unmet (stands_back f a.darts darts (a.twin d) carries.renumbers all (structure.twin_stays d h) (subst (Stands (map f darts)) (sym (carries.twin d h)) stands));
       first = λ k earlier.
-        let place : is.place < length darts = is.at.within in
-        let within : k < length darts = omega arith in
-        let twins : f (a.twin (slice_index darts k)) ≡ b.twin (slice_index (map f darts) k) =
-            carries.twin (slice_index darts k) (all.below k within) ∙ ap b.twin (sym (map_at f darts k within)) in
-        subst (Stands (map f darts)) twins (stands_carried f darts (a.twin (slice_index darts k)) (is.first k earlier));
+          let place : is.place < length darts = is.at.within in
+          let within : k < length darts = omega arith in
+          let twins : f (a.twin (slice_index darts k)) ≡ b.twin (slice_index (map f darts) k) =
+          carries.twin (slice_index darts k) (all.below k within) ∙ ap b.twin (sym (map_at f darts k within)) in
+          subst (Stands (map f darts)) twins (stands_carried f darts (a.twin (slice_index darts k)) (is.first k earlier));
     }
 
 -- what is met is carried to what is met
@@ -123,9 +125,9 @@ meets_carried f a b vertices carries structure some (onward before d vertex met 
     let all : AreBelow a.darts (darts_of before) = meets_below a before structure some met in
     let h : d < a.darts = stands_below a.darts (darts_of before) d all (unmet.place, unmet.at) in
     let next : IsNextUnmet b (darts_of (map (map f) before)) (f d) =
-        subst (λ ds. IsNextUnmet b ds (f d)) (sym (darts_of-map f before)) (next_unmet_carried f a b (darts_of before) d carries structure all unmet) in
+    subst (λ ds. IsNextUnmet b ds (f d)) (sym (darts_of-map f before)) (next_unmet_carried f a b (darts_of before) d carries structure all unmet) in
     let last : IsVertexFrom b (b.twin (f d)) (map f vertex) =
-        subst (λ e. IsVertexFrom b e (map f vertex)) (carries.twin d h) (vertex_carried f a b (a.twin d) vertex carries structure (structure.twin_stays d h) is) in
+    subst (λ e. IsVertexFrom b e (map f vertex)) (carries.twin d h) (vertex_carried f a b (a.twin d) vertex carries structure (structure.twin_stays d h) is) in
     subst (Meets b) (sym (map-append (map f) before (vertex ∷ []))) (onward (map (map f) before) (f d) (map f vertex) (meets_carried f a b before carries structure some met) next last)
 
 twins_carried : (f : ℕ → ℕ) (a b : Structure) (darts : List ℕ) → CarriesTo f a b → AreBelow a.darts darts → ((d : ℕ) → Stands darts d → Stands darts (a.twin d)) → (e : ℕ) → Stands (map f darts) e → Stands (map f darts) (b.twin e)
@@ -134,7 +136,7 @@ twins_carried f a b darts carries all twins e stands =
     let within : stands.0 < length darts = omega (arith, length-map darts f) in
     let there : Stands darts (a.twin (slice_index darts stands.0)) = twins (slice_index darts stands.0) (stands.0, record { within = within; here = refl }) in
     let is : f (a.twin (slice_index darts stands.0)) ≡ b.twin e =
-        carries.twin (slice_index darts stands.0) (all.below stands.0 within) ∙ ap b.twin (sym (map_at f darts stands.0 within) ∙ (stands.1).here) in
+    carries.twin (slice_index darts stands.0) (all.below stands.0 within) ∙ ap b.twin (sym (map_at f darts stands.0 within) ∙ (stands.1).here) in
     subst (Stands (map f darts)) is (stands_carried f darts (a.twin (slice_index darts stands.0)) there)
 
 -- a renumbering carries the meeting list to the meeting list
@@ -143,6 +145,6 @@ meeting_list_carried f a b vertices carries structure (no_dart none) = no_dart (
 meeting_list_carried f a b vertices carries structure (complete vs some met twins) =
     let all : AreBelow a.darts (darts_of vs) = meets_below a vs structure some met in
     complete (map (map f) vs) (subst (λ n. 0 < n) carries.darts some) (meets_carried f a b vs carries structure some met)
-      (λ e stands.
-        subst (λ ds. Stands ds (b.twin e)) (sym (darts_of-map f vs))
-          (twins_carried f a b (darts_of vs) carries all twins e (subst (λ ds. Stands ds e) (darts_of-map f vs) stands)))
+    (λ e stands.
+    subst (λ ds. Stands ds (b.twin e)) (sym (darts_of-map f vs))
+    (twins_carried f a b (darts_of vs) carries all twins e (subst (λ ds. Stands ds e) (darts_of-map f vs) stands)))

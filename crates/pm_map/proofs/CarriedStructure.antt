@@ -1,6 +1,5 @@
 -- What a structure is carried to is a structure, and connected where the first is.
-use Rattle.std.proofs.Common.{◌≡◌, ◌≢◌, ℕ, ◌<◌, ◌≤◌, Bool, true, IsTrue, refl, sym, ap, ◌∙◌, subst, arith}
-use Rattle.pm_perm.specs.Permutation.{IsPermutationBelow}
+use Rattle.std.proofs.Common.{◌≡◌, ℕ, ◌<◌, IsTrue, sym, ap, ◌∙◌, subst, arith}
 use Rattle.pm_map.specs.Structure.{Structure, IsStructure, IsClosedSet, IsConnected, CarriesTo}
 use Rattle.pm_map.proofs.Reached.{place_of, place_of-stays, value-place_of}
 
@@ -33,23 +32,23 @@ structure_carried f a b structure carries no_root =
       rotation = record {
         stays = λ e h. (let from = comes_from f a b e carries h in subst (λ x. x < b.darts) (sym from.next) (stays (a.next from.source) (structure.rotation.stays from.source from.below)));
         injective = λ x y hx hy same.
-          let one = comes_from f a b x carries hx in
-          let two = comes_from f a b y carries hy in
-          let nexts : a.next one.source ≡ a.next two.source =
-              carries.renumbers.injective (a.next one.source) (a.next two.source) (structure.rotation.stays one.source one.below) (structure.rotation.stays two.source two.below) (sym one.next ∙ same ∙ two.next) in
-          sym one.dart ∙ ap f (structure.rotation.injective one.source two.source one.below two.below nexts) ∙ two.dart;
+            let one = comes_from f a b x carries hx in
+            let two = comes_from f a b y carries hy in
+            let nexts : a.next one.source ≡ a.next two.source =
+            carries.renumbers.injective (a.next one.source) (a.next two.source) (structure.rotation.stays one.source one.below) (structure.rotation.stays two.source two.below) (sym one.next ∙ same ∙ two.next) in
+            sym one.dart ∙ ap f (structure.rotation.injective one.source two.source one.below two.below nexts) ∙ two.dart;
       };
       twin_stays = λ e h. (let from = comes_from f a b e carries h in subst (λ x. x < b.darts) (sym from.twin) (stays (a.twin from.source) (structure.twin_stays from.source from.below)));
       twin_back = λ e h.
-        let from = comes_from f a b e carries h in
-        ap b.twin from.twin ∙ sym (carries.twin (a.twin from.source) (structure.twin_stays from.source from.below)) ∙ ap f (structure.twin_back from.source from.below) ∙ from.dart;
+          let from = comes_from f a b e carries h in
+          ap b.twin from.twin ∙ sym (carries.twin (a.twin from.source) (structure.twin_stays from.source from.below)) ∙ ap f (structure.twin_back from.source from.below) ∙ from.dart;
       twin_other = λ e h same.
-        let from = comes_from f a b e carries h in
-        structure.twin_other from.source from.below
+          let from = comes_from f a b e carries h in
+          structure.twin_other from.source from.below
           (carries.renumbers.injective (a.twin from.source) from.source (structure.twin_stays from.source from.below) from.below (sym from.twin ∙ same ∙ sym from.dart));
       root_stays = λ some.
-        let filled : 0 < a.darts = subst (λ n. 0 < n) (sym carries.darts) some in
-        subst (λ x. x < b.darts) (carries.root filled) (stays a.root (structure.root_stays filled));
+          let filled : 0 < a.darts = subst (λ n. 0 < n) (sym carries.darts) some in
+          subst (λ x. x < b.darts) (carries.root filled) (stays a.root (structure.root_stays filled));
       no_root = no_root;
     }
 
@@ -64,4 +63,4 @@ connected_carried f a b carries connected = λ holds root closed d h.
       under_twin = λ x hx test. subst (λ y. IsTrue (holds y)) (sym (carries.twin x hx)) (closed.under_twin (f x) (stays x hx) test);
     } in
     subst (λ y. IsTrue (holds y)) from.dart
-      (connected (λ x. holds (f x)) (subst (λ y. IsTrue (holds y)) (sym (carries.root filled)) root) pulled from.source from.below)
+    (connected (λ x. holds (f x)) (subst (λ y. IsTrue (holds y)) (sym (carries.root filled)) root) pulled from.source from.below)

@@ -1,5 +1,5 @@
 -- A permutation below a bound reaches each number below it, and so has an inverse.
-use Rattle.std.proofs.Common.{◌≡◌, ◌≢◌, ℕ, zero, suc, ◌<◌, ◌≤◌, cond, eqb, refl, sym, ap, ◌∙◌, subst, ◌⊎◌, inl, inr, eq-eqb, ne_eqb, arith}
+use Rattle.std.proofs.Common.{◌≡◌, ℕ, zero, suc, ◌<◌, cond, eqb, sym, ap, ◌∙◌, inl, inr, eq-eqb, ne_eqb, arith}
 use Rattle.std.proofs.lemmas.Bool.{cases_eq, cond-true, cond-false}
 use Rattle.pm_perm.specs.Permutation.{IsPermutationBelow}
 
@@ -30,23 +30,23 @@ module _ (f : ℕ → ℕ) (last : ℕ) (p : IsPermutationBelow (suc last) f) wh
       let high : f last < suc last = p.stays last (omega arith) in
       let here : f k < suc last = p.stays k (omega arith) in
       elim (cases_eq (f k) last) [
-        inl e ↦ elim (cases_eq (f last) last) [ inl fixed ↦ absurd (apart_from_last k h (e ∙ sym fixed)) | inr moved ↦ omega (arith, without_last-at f last k e) ]
-      | inr e ↦ omega (arith, without_last-other f last k e)
+        | inl e ↦ elim (cases_eq (f last) last) [ inl fixed ↦ absurd (apart_from_last k h (e ∙ sym fixed)) | inr moved ↦ omega (arith, without_last-at f last k e) ]
+        | inr e ↦ omega (arith, without_last-other f last k e)
       ]
 
   without_last-injective : (j k : ℕ) → j < last → k < last → without_last f last j ≡ without_last f last k → j ≡ k
   without_last-injective j k hj hk same =
       elim (cases_eq (f j) last) [
-        inl ej ↦
-          elim (cases_eq (f k) last) [
-            inl ek ↦ p.injective j k (omega arith) (omega arith) (ej ∙ sym ek)
-          | inr ek ↦ absurd (apart_from_last k hk (sym (without_last-other f last k ek) ∙ sym same ∙ without_last-at f last j ej))
-          ]
-      | inr ej ↦
-          elim (cases_eq (f k) last) [
-            inl ek ↦ absurd (apart_from_last j hj (sym (without_last-other f last j ej) ∙ same ∙ without_last-at f last k ek))
-          | inr ek ↦ p.injective j k (omega arith) (omega arith) (sym (without_last-other f last j ej) ∙ same ∙ without_last-other f last k ek)
-          ]
+        | inl ej ↦
+            elim (cases_eq (f k) last) [
+              | inl ek ↦ p.injective j k (omega arith) (omega arith) (ej ∙ sym ek)
+              | inr ek ↦ absurd (apart_from_last k hk (sym (without_last-other f last k ek) ∙ sym same ∙ without_last-at f last j ej))
+            ]
+        | inr ej ↦
+            elim (cases_eq (f k) last) [
+              | inl ek ↦ absurd (apart_from_last j hj (sym (without_last-other f last j ej) ∙ same ∙ without_last-at f last k ek))
+              | inr ek ↦ p.injective j k (omega arith) (omega arith) (sym (without_last-other f last j ej) ∙ same ∙ without_last-other f last k ek)
+            ]
       ]
 
   without_last-permutes : IsPermutationBelow last (without_last f last)
@@ -57,8 +57,8 @@ module _ (f : ℕ → ℕ) (last : ℕ) (p : IsPermutationBelow (suc last) f) wh
   reached_below y other r =
       let below : r.from < last = r.below in
       elim (cases_eq (f r.from) last) [
-        inl e ↦ absurd (other (sym r.value ∙ without_last-at f last r.from e))
-      | inr e ↦ record { from = r.from; below = omega arith; value = sym (without_last-other f last r.from e) ∙ r.value }
+        | inl e ↦ absurd (other (sym r.value ∙ without_last-at f last r.from e))
+        | inr e ↦ record { from = r.from; below = omega arith; value = sym (without_last-other f last r.from e) ∙ r.value }
       ]
 
   -- the last place is reached from where the permutation without its last number goes to the last number's value
@@ -66,8 +66,8 @@ module _ (f : ℕ → ℕ) (last : ℕ) (p : IsPermutationBelow (suc last) f) wh
   reached_last y is other r =
       let below : r.from < last = r.below in
       elim (cases_eq (f r.from) last) [
-        inl e ↦ record { from = r.from; below = omega arith; value = e ∙ sym is }
-      | inr e ↦ absurd (apart_from_last r.from below (sym (without_last-other f last r.from e) ∙ r.value))
+        | inl e ↦ record { from = r.from; below = omega arith; value = e ∙ sym is }
+        | inr e ↦ absurd (apart_from_last r.from below (sym (without_last-other f last r.from e) ∙ r.value))
       ]
 
 -- each number below the bound is a value of the permutation
@@ -75,16 +75,16 @@ pub reached : (f : ℕ → ℕ) (bound y : ℕ) → IsPermutationBelow bound f �
 reached f zero y p h = absurd (omega arith)
 reached f (suc last) y p h =
     elim (cases_eq y (f last)) [
-      inl e ↦ record { from = last; below = omega arith; value = sym e }
-    | inr other ↦
-      elim (cases_eq y last) [
-        inl is ↦
-          let high : f last < suc last = p.stays last (omega arith) in
-          let inside : f last < last = elim (cases_eq (f last) last) [ inl e ↦ absurd (other (is ∙ sym e)) | inr e ↦ omega arith ] in
-          reached_last f last p y is other (reached (without_last f last) last (f last) (without_last-permutes f last p) inside)
-      | inr below ↦
-          reached_below f last p y other (reached (without_last f last) last y (without_last-permutes f last p) (omega arith))
-      ]
+      | inl e ↦ record { from = last; below = omega arith; value = sym e }
+      | inr other ↦
+          elim (cases_eq y last) [
+            | inl is ↦
+                let high : f last < suc last = p.stays last (omega arith) in
+                let inside : f last < last = elim (cases_eq (f last) last) [ inl e ↦ absurd (other (is ∙ sym e)) | inr e ↦ omega arith ] in
+                reached_last f last p y is other (reached (without_last f last) last (f last) (without_last-permutes f last p) inside)
+            | inr below ↦
+                reached_below f last p y other (reached (without_last f last) last y (without_last-permutes f last p) (omega arith))
+          ]
     ]
 
 -- the number below the bound whose value is y, 0 where there is none
@@ -99,14 +99,14 @@ place_of-value f zero y r = let below : r.from < 0 = r.below in absurd (omega ar
 place_of-value f (suc bound) y r =
     let below : r.from < suc bound = r.below in
     elim (cases_eq (f bound) y) [
-      inl e ↦
-        let here : cond (eqb (f bound) y) bound (place_of f bound y) ≡ bound = cond-true (eqb (f bound) y) bound (place_of f bound y) (eq-eqb (f bound) y e) in
-        (omega arith, ap f here ∙ e)
-    | inr e ↦
-        let there : cond (eqb (f bound) y) bound (place_of f bound y) ≡ place_of f bound y = cond-false (eqb (f bound) y) bound (place_of f bound y) (ne_eqb (f bound) y e) in
-        let inside : r.from < bound = elim (cases_eq r.from bound) [ inl same ↦ absurd (e (ap f (sym same) ∙ r.value)) | inr differs ↦ omega arith ] in
-        let rest : (place_of f bound y < bound) × (f (place_of f bound y) ≡ y) = place_of-value f bound y (record { from = r.from; below = inside; value = r.value }) in
-        (omega (arith, rest.0), ap f there ∙ rest.1)
+      | inl e ↦
+          let here : cond (eqb (f bound) y) bound (place_of f bound y) ≡ bound = cond-true (eqb (f bound) y) bound (place_of f bound y) (eq-eqb (f bound) y e) in
+          (omega arith, ap f here ∙ e)
+      | inr e ↦
+          let there : cond (eqb (f bound) y) bound (place_of f bound y) ≡ place_of f bound y = cond-false (eqb (f bound) y) bound (place_of f bound y) (ne_eqb (f bound) y e) in
+          let inside : r.from < bound = elim (cases_eq r.from bound) [ inl same ↦ absurd (e (ap f (sym same) ∙ r.value)) | inr differs ↦ omega arith ] in
+          let rest : (place_of f bound y < bound) × (f (place_of f bound y) ≡ y) = place_of-value f bound y (record { from = r.from; below = inside; value = r.value }) in
+          (omega (arith, rest.0), ap f there ∙ rest.1)
     ]
 
 -- the inverse of a permutation: its values below the bound are what is gone to

@@ -1,18 +1,21 @@
 -- To be the same, up to a renumbering, is an equivalence of structures.
-use Rattle.std.proofs.Common.{◌≡◌, ℕ, ◌<◌, ◌≤◌, refl, sym, ap, ◌∙◌, subst, arith}
+use Rattle.std.proofs.Common.{◌≡◌, ℕ, ◌<◌, refl, sym, ap, ◌∙◌, subst}
 use Rattle.pm_perm.specs.Permutation.{IsPermutationBelow}
 use Rattle.pm_map.specs.Structure.{Structure, IsStructure, CarriesTo, Same}
 use Rattle.pm_map.proofs.Reached.{place_of, place_of-stays, place_of-permutes, place_of-of_value, value-place_of}
 
 -- a structure is the same as itself
 pub same_as_itself : (a : Structure) → Same a a
-same_as_itself a = (λ d. d, record {
-  darts = refl;
-  renumbers = record { stays = λ k h. h; injective = λ j k hj hk e. e };
-  next = λ d h. refl;
-  twin = λ d h. refl;
-  root = λ some. refl;
-})
+same_as_itself a = (
+  λ d. d,
+  record {
+    darts = refl;
+    renumbers = record { stays = λ k h. h; injective = λ j k hj hk e. e };
+    next = λ d h. refl;
+    twin = λ d h. refl;
+    root = λ some. refl;
+  },
+)
 
 carries_on : (f g : ℕ → ℕ) (a b c : Structure) → CarriesTo f a b → CarriesTo g b c → CarriesTo (λ d. g (f d)) a c
 carries_on f g a b c one two =
@@ -41,16 +44,16 @@ carries_back f a b structure carries =
       darts = sym carries.darts;
       renumbers = subst (λ n. IsPermutationBelow n (place_of f a.darts)) carries.darts (place_of-permutes f a.darts p);
       next = λ d h.
-        let there : b.next d ≡ f (a.next (place_of f a.darts d)) =
-            ap b.next (sym (value-place_of f a.darts d p (within d h))) ∙ sym (carries.next (place_of f a.darts d) (back d (within d h))) in
-        ap (place_of f a.darts) there ∙ place_of-of_value f a.darts (a.next (place_of f a.darts d)) p (structure.rotation.stays (place_of f a.darts d) (back d (within d h)));
+          let there : b.next d ≡ f (a.next (place_of f a.darts d)) =
+          ap b.next (sym (value-place_of f a.darts d p (within d h))) ∙ sym (carries.next (place_of f a.darts d) (back d (within d h))) in
+          ap (place_of f a.darts) there ∙ place_of-of_value f a.darts (a.next (place_of f a.darts d)) p (structure.rotation.stays (place_of f a.darts d) (back d (within d h)));
       twin = λ d h.
-        let there : b.twin d ≡ f (a.twin (place_of f a.darts d)) =
-            ap b.twin (sym (value-place_of f a.darts d p (within d h))) ∙ sym (carries.twin (place_of f a.darts d) (back d (within d h))) in
-        ap (place_of f a.darts) there ∙ place_of-of_value f a.darts (a.twin (place_of f a.darts d)) p (structure.twin_stays (place_of f a.darts d) (back d (within d h)));
+          let there : b.twin d ≡ f (a.twin (place_of f a.darts d)) =
+          ap b.twin (sym (value-place_of f a.darts d p (within d h))) ∙ sym (carries.twin (place_of f a.darts d) (back d (within d h))) in
+          ap (place_of f a.darts) there ∙ place_of-of_value f a.darts (a.twin (place_of f a.darts d)) p (structure.twin_stays (place_of f a.darts d) (back d (within d h)));
       root = λ some.
-        let filled : 0 < a.darts = subst (λ n. 0 < n) (sym carries.darts) some in
-        ap (place_of f a.darts) (sym (carries.root filled)) ∙ place_of-of_value f a.darts a.root p (structure.root_stays filled);
+          let filled : 0 < a.darts = subst (λ n. 0 < n) (sym carries.darts) some in
+          ap (place_of f a.darts) (sym (carries.root filled)) ∙ place_of-of_value f a.darts a.root p (structure.root_stays filled);
     }
 
 -- the same the other way round

@@ -1,5 +1,5 @@
 -- A structure has one meeting list: its vertices, each next dart and the whole list are determined.
-use Rattle.std.proofs.Common.{◌≡◌, ◌≢◌, ℕ, zero, suc, ◌+◌, ◌-◌, ◌<◌, ◌≤◌, List, [], ◌∷◌, ◌++◌, length, take, slice_index, refl, sym, ap, ◌∙◌, subst, ◌⊎◌, inl, inr, ext_get_or, take_all, length-append, arith}
+use Rattle.std.proofs.Common.{◌≡◌, ℕ, zero, suc, ◌-◌, ◌<◌, ◌≤◌, List, [], ◌∷◌, ◌++◌, length, take, slice_index, refl, sym, ap, ◌∙◌, subst, inl, inr, ext_get_or, take_all, length-append, arith}
 use Rattle.std.proofs.lemmas.Bool.{cases_order, cases_lt}
 use Rattle.std.proofs.lemmas.List.{take-append-le}
 use Rattle.std.proofs.lemmas.Option.{slice_get_within, get_or_from_slice_get}
@@ -27,12 +27,12 @@ vertex_not_longer s d v w iv iw less =
 pub vertex_is_unique : (s : Structure) (d : ℕ) (v w : List ℕ) → IsVertexFrom s d v → IsVertexFrom s d w → v ≡ w
 vertex_is_unique s d v w iv iw =
     elim (cases_order (length v) (length w)) [
-      inl same ↦ ext_get_or 0 v w same (λ k h. vertices_agree s d v w iv iw k h (omega arith))
-    | inr differs ↦
-      elim differs [
-        inl less ↦ absurd (vertex_not_longer s d v w iv iw less)
-      | inr more ↦ absurd (vertex_not_longer s d w v iw iv more)
-      ]
+      | inl same ↦ ext_get_or 0 v w same (λ k h. vertices_agree s d v w iv iw k h (omega arith))
+      | inr differs ↦
+          elim differs [
+            | inl less ↦ absurd (vertex_not_longer s d v w iv iw less)
+            | inr more ↦ absurd (vertex_not_longer s d w v iw iv more)
+          ]
     ]
 
 unmet_not_later : (s : Structure) (darts : List ℕ) (d e : ℕ) → (id : IsNextUnmet s darts d) → (ie : IsNextUnmet s darts e) → id.place < ie.place → ⊥
@@ -43,12 +43,12 @@ unmet_not_later s darts d e id ie less =
 pub next_unmet_is_unique : (s : Structure) (darts : List ℕ) (d e : ℕ) → IsNextUnmet s darts d → IsNextUnmet s darts e → d ≡ e
 next_unmet_is_unique s darts d e id ie =
     elim (cases_order id.place ie.place) [
-      inl same ↦ sym id.at.here ∙ ap (slice_index darts) same ∙ ie.at.here
-    | inr differs ↦
-      elim differs [
-        inl less ↦ absurd (unmet_not_later s darts d e id ie less)
-      | inr more ↦ absurd (unmet_not_later s darts e d ie id more)
-      ]
+      | inl same ↦ sym id.at.here ∙ ap (slice_index darts) same ∙ ie.at.here
+      | inr differs ↦
+          elim differs [
+            | inl less ↦ absurd (unmet_not_later s darts d e id ie less)
+            | inr more ↦ absurd (unmet_not_later s darts e d ie id more)
+          ]
     ]
 
 length_onward : (vertices : List (List ℕ)) (vertex : List ℕ) → length (vertices ++ vertex ∷ []) ≡ suc (length vertices)
@@ -80,11 +80,11 @@ meets_is_front s v w mv (at_root b ib) le =
     meets_is_unique s v (b ∷ []) mv (at_root b ib) (omega arith) ∙ sym whole
 meets_is_front s v w mv (onward ws e b mw ue ib) le =
     elim (cases_lt (length ws) (length v)) [
-      inl more ↦
-        let total : length (ws ++ b ∷ []) ≡ suc (length ws) = length_onward ws b in
-        let whole : take (length v) (ws ++ b ∷ []) ≡ ws ++ b ∷ [] = take_all (length v) (ws ++ b ∷ []) (omega arith) in
-        meets_is_unique s v (ws ++ b ∷ []) mv (onward ws e b mw ue ib) (omega arith) ∙ sym whole
-    | inr less ↦ meets_is_front s v ws mv mw less ∙ sym (take-append-le (length v) ws (b ∷ []) less)
+      | inl more ↦
+          let total : length (ws ++ b ∷ []) ≡ suc (length ws) = length_onward ws b in
+          let whole : take (length v) (ws ++ b ∷ []) ≡ ws ++ b ∷ [] = take_all (length v) (ws ++ b ∷ []) (omega arith) in
+          meets_is_unique s v (ws ++ b ∷ []) mv (onward ws e b mw ue ib) (omega arith) ∙ sym whole
+      | inr less ↦ meets_is_front s v ws mv mw less ∙ sym (take-append-le (length v) ws (b ∷ []) less)
     ]
 
 -- with each dart that stands in the list its twin stands in it
@@ -96,11 +96,11 @@ pub meets_no_more : (s : Structure) (v w : List (List ℕ)) → Meets s v → Ho
 meets_no_more s v w mv all (at_root b ib) less = let some = meets_some s v mv in omega arith
 meets_no_more s v w mv all (onward ws e b mw ue ib) less =
     elim (cases_lt (length v) (length ws)) [
-      inl earlier ↦ meets_no_more s v ws mv all mw earlier
-    | inr last ↦
-        let same : v ≡ ws = meets_is_unique s v ws mv mw (omega (arith, length_onward ws b)) in
-        let there : Stands (darts_of v) e = (ue.place, subst (λ x. StandsAt (darts_of x) ue.place e) (sym same) ue.at) in
-        ue.unmet (subst (λ x. Stands (darts_of x) (s.twin e)) same (all.twin_stands e there))
+      | inl earlier ↦ meets_no_more s v ws mv all mw earlier
+      | inr last ↦
+          let same : v ≡ ws = meets_is_unique s v ws mv mw (omega (arith, length_onward ws b)) in
+          let there : Stands (darts_of v) e = (ue.place, subst (λ x. StandsAt (darts_of x) ue.place e) (sym same) ue.at) in
+          ue.unmet (subst (λ x. Stands (darts_of x) (s.twin e)) same (all.twin_stands e there))
     ]
 
 -- a structure has one meeting list
@@ -110,10 +110,10 @@ meeting_list_is_unique s v w (no_dart none) (complete _ some mw _) = absurd (ome
 meeting_list_is_unique s v w (complete _ some mv _) (no_dart none) = absurd (omega arith)
 meeting_list_is_unique s v w (complete vs some mv allv) (complete ws _ mw allw) =
     elim (cases_order (length vs) (length ws)) [
-      inl same ↦ meets_is_unique s vs ws mv mw same
-    | inr differs ↦
-      elim differs [
-        inl less ↦ absurd (meets_no_more s vs ws mv (record { twin_stands = allv }) mw less)
-      | inr more ↦ absurd (meets_no_more s ws vs mw (record { twin_stands = allw }) mv more)
-      ]
+      | inl same ↦ meets_is_unique s vs ws mv mw same
+      | inr differs ↦
+          elim differs [
+            | inl less ↦ absurd (meets_no_more s vs ws mv (record { twin_stands = allv }) mw less)
+            | inr more ↦ absurd (meets_no_more s ws vs mw (record { twin_stands = allw }) mv more)
+          ]
     ]

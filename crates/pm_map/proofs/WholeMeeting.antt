@@ -1,11 +1,11 @@
 -- The meeting list of a connected structure has every dart, each once.
-use Rattle.std.proofs.Common.{◌≡◌, ◌≢◌, ℕ, zero, suc, ◌+◌, ◌-◌, ◌<◌, ◌≤◌, Bool, true, false, ◌||◌, ◌==◌, IsTrue, List, [], ◌∷◌, ◌++◌, length, slice_index, refl, sym, ap, ◌∙◌, subst, ◌⊎◌, inl, inr, append-nil, length-append, get_or-append-add, eq-eqb, eqb-true, arith}
+use Rattle.std.proofs.Common.{◌≡◌, ℕ, zero, suc, ◌+◌, ◌-◌, ◌<◌, true, ◌==◌, List, [], ◌∷◌, ◌++◌, length, slice_index, refl, sym, ap, ◌∙◌, subst, ◌⊎◌, inl, inr, append-nil, length-append, get_or-append-add, eq-eqb, eqb-true, arith}
 use Rattle.std.specs.List.{list_any}
-use Rattle.std.proofs.lemmas.Bool.{cases_lt, cases_eq, cases_order, or_cases, false≢true}
+use Rattle.std.proofs.lemmas.Bool.{cases_lt, cases_order, or_cases, false≢true}
 use Rattle.std.proofs.lemmas.List.{get_or_append_left, get_or-append_right}
 use Rattle.std.proofs.lemmas.List.Folds.{list_any_at}
 use Rattle.pm_map.specs.Structure.{Structure, IsStructure, IsClosedSet, IsConnected}
-use Rattle.pm_map.specs.Meeting.{StandsAt, Stands, IsVertexFrom, IsNextUnmet, darts_of, Meets, at_root, onward, IsMeetingList, no_dart, complete}
+use Rattle.pm_map.specs.Meeting.{Stands, IsVertexFrom, darts_of, Meets, at_root, onward, IsMeetingList, no_dart, complete}
 use Rattle.pm_map.proofs.UniqueMeeting.{vertex_begins}
 use Rattle.pm_map.proofs.CarriedMeeting.{AreBelow, stands_below, darts_of-onward, vertex_below, meets_below}
 
@@ -23,11 +23,14 @@ pub stands-append_cases : (xs ys : List ℕ) (d : ℕ) → Stands (xs ++ ys) d �
 stands-append_cases xs ys d stands =
     let within : stands.0 < length (xs ++ ys) = (stands.1).within in
     elim (cases_lt stands.0 (length xs)) [
-      inl front ↦ inl (stands.0, record { within = front; here = sym (get_or_append_left xs ys 0 stands.0 front) ∙ (stands.1).here })
-    | inr back ↦ inr (stands.0 - length xs, record {
-        within = omega (arith, length-append xs ys);
-        here = sym (get_or-append_right xs ys (length xs) stands.0 0 refl back) ∙ (stands.1).here;
-      })
+      | inl front ↦ inl (stands.0, record { within = front; here = sym (get_or_append_left xs ys 0 stands.0 front) ∙ (stands.1).here })
+      | inr back ↦ inr (
+        stands.0 - length xs,
+        record {
+          within = omega (arith, length-append xs ys);
+          here = sym (get_or-append_right xs ys (length xs) stands.0 0 refl back) ∙ (stands.1).here;
+        },
+      )
     ]
 
 pub stands-cons : (x : ℕ) (xs : List ℕ) (d : ℕ) → Stands xs d → Stands (x ∷ xs) d
@@ -44,8 +47,8 @@ pub stands_from_test : (darts : List ℕ) (d : ℕ) → list_any (λ e. e == d) 
 stands_from_test [] d test = absurd (false≢true test)
 stands_from_test (x ∷ darts) d test =
     elim (or_cases (x == d) (list_any (λ e. e == d) darts) test) [
-      inl here ↦ (0, record { within = omega arith; here = eqb-true x d here })
-    | inr later ↦ stands-cons x darts d (stands_from_test darts d later)
+      | inl here ↦ (0, record { within = omega arith; here = eqb-true x d here })
+      | inr later ↦ stands-cons x darts d (stands_from_test darts d later)
     ]
 
 -- with each dart that stands in the list the next around its vertex stands in it
@@ -56,23 +59,23 @@ pub record HoldsNext (s : Structure) (darts : List ℕ) : Type 0 where
 pub vertex_holds_next : (s : Structure) (e : ℕ) (vertex : List ℕ) → IsVertexFrom s e vertex → HoldsNext s vertex
 vertex_holds_next s e vertex is = record {
   next_stands = λ d stands.
-    let within : stands.0 < length vertex = (stands.1).within in
-    elim (cases_lt (suc stands.0) (length vertex)) [
-      inl inside ↦ (suc stands.0, record { within = inside; here = is.goes stands.0 inside ∙ ap s.next (stands.1).here })
-    | inr end ↦
-      let last : length vertex - 1 ≡ stands.0 = omega arith in
-      let around : e ≡ s.next d = sym is.ends ∙ ap (λ k. s.next (slice_index vertex k)) last ∙ ap s.next (stands.1).here in
-      (0, record { within = omega arith; here = (vertex_begins s e vertex is).1 ∙ around })
-    ]
+      let within : stands.0 < length vertex = (stands.1).within in
+      elim (cases_lt (suc stands.0) (length vertex)) [
+        | inl inside ↦ (suc stands.0, record { within = inside; here = is.goes stands.0 inside ∙ ap s.next (stands.1).here })
+        | inr end ↦
+            let last : length vertex - 1 ≡ stands.0 = omega arith in
+            let around : e ≡ s.next d = sym is.ends ∙ ap (λ k. s.next (slice_index vertex k)) last ∙ ap s.next (stands.1).here in
+            (0, record { within = omega arith; here = (vertex_begins s e vertex is).1 ∙ around })
+      ];
 }
 
 HoldsNext-append : (s : Structure) (xs ys : List ℕ) → HoldsNext s xs → HoldsNext s ys → HoldsNext s (xs ++ ys)
 HoldsNext-append s xs ys hx hy = record {
   next_stands = λ d stands.
-    elim (stands-append_cases xs ys d stands) [
-      inl front ↦ stands-append_left xs ys (s.next d) (hx.next_stands d front)
-    | inr back ↦ stands-append_right xs ys (s.next d) (hy.next_stands d back)
-    ]
+      elim (stands-append_cases xs ys d stands) [
+        | inl front ↦ stands-append_left xs ys (s.next d) (hx.next_stands d front)
+        | inr back ↦ stands-append_right xs ys (s.next d) (hy.next_stands d back)
+      ];
 }
 
 -- what is met holds with each dart the next
@@ -80,7 +83,7 @@ pub meets_holds_next : (s : Structure) (vertices : List (List ℕ)) → Meets s 
 meets_holds_next s vertices (at_root vertex is) = subst (HoldsNext s) (sym (append-nil vertex)) (vertex_holds_next s s.root vertex is)
 meets_holds_next s vertices (onward before d vertex met unmet is) =
     subst (HoldsNext s) (sym (darts_of-onward before vertex))
-      (HoldsNext-append s (darts_of before) vertex (meets_holds_next s before met) (vertex_holds_next s (s.twin d) vertex is))
+    (HoldsNext-append s (darts_of before) vertex (meets_holds_next s before met) (vertex_holds_next s (s.twin d) vertex is))
 
 -- the root is met
 pub root_is_met : (s : Structure) (vertices : List (List ℕ)) → Meets s vertices → Stands (darts_of vertices) s.root
@@ -113,20 +116,20 @@ vertex_never_again s e vertex structure h is (suc i) (suc j) less within same =
     let first : i < length vertex = omega arith in
     let second : j < length vertex = omega arith in
     vertex_never_again s e vertex structure h is i j (omega arith) second
-      (structure.rotation.injective (slice_index vertex i) (slice_index vertex j) (all.below i first) (all.below j second) (sym (is.goes i one) ∙ same ∙ is.goes j within))
+    (structure.rotation.injective (slice_index vertex i) (slice_index vertex j) (all.below i first) (all.below j second) (sym (is.goes i one) ∙ same ∙ is.goes j within))
 
 -- a vertex has each of its darts once
 pub vertex_stands_once : (s : Structure) (e : ℕ) (vertex : List ℕ) → IsStructure s → e < s.darts → IsVertexFrom s e vertex → StandOnce vertex
 vertex_stands_once s e vertex structure h is = record {
   once = λ i j hi hj same.
-    elim (cases_order i j) [
-      inl equal ↦ equal
-    | inr differs ↦
-      elim differs [
-        inl less ↦ absurd (vertex_never_again s e vertex structure h is i j less hj same)
-      | inr more ↦ absurd (vertex_never_again s e vertex structure h is j i more hi (sym same))
-      ]
-    ]
+      elim (cases_order i j) [
+        | inl equal ↦ equal
+        | inr differs ↦
+            elim differs [
+              | inl less ↦ absurd (vertex_never_again s e vertex structure h is i j less hj same)
+              | inr more ↦ absurd (vertex_never_again s e vertex structure h is j i more hi (sym same))
+            ]
+      ];
 }
 
 walk_around : (s : Structure) (e : ℕ) (vertex darts : List ℕ) → IsVertexFrom s e vertex → HoldsNext s darts → (rest k : ℕ) → suc (k + rest) ≡ length vertex → Stands darts (slice_index vertex k) → Stands darts e
@@ -146,30 +149,30 @@ vertex_all_or_none s e vertex darts d is holds inside stands =
 StandOnce-append : (xs ys : List ℕ) → StandOnce xs → StandOnce ys → ((d : ℕ) → Stands xs d → Stands ys d → ⊥) → StandOnce (xs ++ ys)
 StandOnce-append xs ys ox oy apart = record {
   once = λ i j hi hj same.
-    elim (cases_lt i (length xs)) [
-      inl front_i ↦
-        let at_i : slice_index (xs ++ ys) i ≡ slice_index xs i = get_or_append_left xs ys 0 i front_i in
-        elim (cases_lt j (length xs)) [
-          inl front_j ↦ ox.once i j front_i front_j (sym at_i ∙ same ∙ get_or_append_left xs ys 0 j front_j)
-        | inr back_j ↦
-          let within : j - length xs < length ys = omega (arith, length-append xs ys) in
-          absurd (apart (slice_index xs i) (i, record { within = front_i; here = refl })
-            (j - length xs, record { within = within; here = sym (get_or-append_right xs ys (length xs) j 0 refl back_j) ∙ sym same ∙ at_i }))
-        ]
-    | inr back_i ↦
-        let at_i : slice_index (xs ++ ys) i ≡ slice_index ys (i - length xs) = get_or-append_right xs ys (length xs) i 0 refl back_i in
-        let within_i : i - length xs < length ys = omega (arith, length-append xs ys) in
-        elim (cases_lt j (length xs)) [
-          inl front_j ↦
-          absurd (apart (slice_index xs j) (j, record { within = front_j; here = refl })
-            (i - length xs, record { within = within_i; here = sym at_i ∙ same ∙ get_or_append_left xs ys 0 j front_j }))
-        | inr back_j ↦
-          let within_j : j - length xs < length ys = omega (arith, length-append xs ys) in
-          let equal : i - length xs ≡ j - length xs =
-              oy.once (i - length xs) (j - length xs) within_i within_j (sym at_i ∙ same ∙ get_or-append_right xs ys (length xs) j 0 refl back_j) in
-          omega arith
-        ]
-    ]
+      elim (cases_lt i (length xs)) [
+        | inl front_i ↦
+            let at_i : slice_index (xs ++ ys) i ≡ slice_index xs i = get_or_append_left xs ys 0 i front_i in
+            elim (cases_lt j (length xs)) [
+              | inl front_j ↦ ox.once i j front_i front_j (sym at_i ∙ same ∙ get_or_append_left xs ys 0 j front_j)
+              | inr back_j ↦
+                  let within : j - length xs < length ys = omega (arith, length-append xs ys) in
+                  absurd (apart (slice_index xs i) (i, record { within = front_i; here = refl })
+                  (j - length xs, record { within = within; here = sym (get_or-append_right xs ys (length xs) j 0 refl back_j) ∙ sym same ∙ at_i }))
+            ]
+        | inr back_i ↦
+            let at_i : slice_index (xs ++ ys) i ≡ slice_index ys (i - length xs) = get_or-append_right xs ys (length xs) i 0 refl back_i in
+            let within_i : i - length xs < length ys = omega (arith, length-append xs ys) in
+            elim (cases_lt j (length xs)) [
+              | inl front_j ↦
+                  absurd (apart (slice_index xs j) (j, record { within = front_j; here = refl })
+                  (i - length xs, record { within = within_i; here = sym at_i ∙ same ∙ get_or_append_left xs ys 0 j front_j }))
+              | inr back_j ↦
+                  let within_j : j - length xs < length ys = omega (arith, length-append xs ys) in
+                  let equal : i - length xs ≡ j - length xs =
+                  oy.once (i - length xs) (j - length xs) within_i within_j (sym at_i ∙ same ∙ get_or-append_right xs ys (length xs) j 0 refl back_j) in
+                  omega arith
+            ]
+      ];
 }
 
 -- what is met has each dart once
@@ -179,9 +182,9 @@ meets_once s vertices structure some (at_root vertex is) =
 meets_once s vertices structure some (onward before d vertex met unmet is) =
     let dart : d < s.darts = stands_below s.darts (darts_of before) d (meets_below s before structure some met) (unmet.place, unmet.at) in
     subst StandOnce (sym (darts_of-onward before vertex))
-      (StandOnce-append (darts_of before) vertex (meets_once s before structure some met)
-        (vertex_stands_once s (s.twin d) vertex structure (structure.twin_stays d dart) is)
-        (λ e front back. unmet.unmet (vertex_all_or_none s (s.twin d) vertex (darts_of before) e is (meets_holds_next s before met) back front)))
+    (StandOnce-append (darts_of before) vertex (meets_once s before structure some met)
+    (vertex_stands_once s (s.twin d) vertex structure (structure.twin_stays d dart) is)
+    (λ e front back. unmet.unmet (vertex_all_or_none s (s.twin d) vertex (darts_of before) e is (meets_holds_next s before met) back front)))
 
 -- the meeting list has each dart once
 pub meeting_list_stands_once : (s : Structure) (vertices : List (List ℕ)) → IsStructure s → IsMeetingList s vertices → StandOnce (darts_of vertices)

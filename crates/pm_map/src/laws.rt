@@ -1,0 +1,10 @@
+ghost use Rattle.pm_map.specs.CanonicalLaws.{CanonicalIsRooted, CanonicalIsUnique, CanonicalTellsMaps};
+
+/// What canonical maps are for, as a law to call upon; nothing is computed. The canonical map of a rooted map is a rooted
+/// map, a rooted map has no two canonical maps, and two rooted maps are the same, up to a renumbering of their darts,
+/// exactly where their canonical maps are equal.
+pub fn canonical_is_unique()
+    ensures rooted { CanonicalIsRooted }
+    ensures unique { CanonicalIsUnique }
+    ensures tells { CanonicalTellsMaps }
+{}
