@@ -52,8 +52,8 @@ dart_named-below m darts names n name h =
     let at : get_or darts stands.0 0 ≡ get_or (first_mentions darts) (name / 2) 0 = stands.1.here in
     let below : get_or (first_mentions darts) (name / 2) 0 < length m.sigma = subst (λ e. e < length m.sigma) at (n.order.once.stays stands.0 stands.1.within) in
     elim (cases_eq (name % 2) 0) [
-      inl e ↦ subst (λ e. e < length m.sigma) (sym (cond-true (eqb (name % 2) 0) _ _ (eq-eqb (name % 2) 0 e))) below
-    | inr e ↦ subst (λ e. e < length m.sigma) (sym (cond-false (eqb (name % 2) 0) _ _ (ne_eqb (name % 2) 0 e))) (twin_below (length m.sigma) _ n.is_map.even below)
+      | inl e ↦ subst (λ e. e < length m.sigma) (sym (cond-true (eqb (name % 2) 0) _ _ (eq-eqb (name % 2) 0 e))) below
+      | inr e ↦ subst (λ e. e < length m.sigma) (sym (cond-false (eqb (name % 2) 0) _ _ (ne_eqb (name % 2) 0 e))) (twin_below (length m.sigma) _ n.is_map.even below)
     ]
 
 dart_named-name : (m : RotationSystem) (darts names : List ℕ) → IsNumbered m darts names → (name : ℕ) → name < 2 * length (first_mentions darts) → get_or names (dart_named (first_mentions darts) name) 0 ≡ name
@@ -61,8 +61,8 @@ unfolding dart_named
 dart_named-name m darts names n name h =
     let place : name / 2 < length (first_mentions darts) = omega arith in
     elim (cases_eq (name % 2) 0) [
-      inl e ↦ ap (λ d. get_or names d 0) (cond-true (eqb (name % 2) 0) _ _ (eq-eqb (name % 2) 0 e)) ∙ n.named.mention (name / 2) place ∙ (let whole : 2 * (name / 2) ≡ name = omega arith in whole)
-    | inr e ↦ ap (λ d. get_or names d 0) (cond-false (eqb (name % 2) 0) _ _ (ne_eqb (name % 2) 0 e)) ∙ n.named.other (name / 2) place ∙ (let whole : 2 * (name / 2) + 1 ≡ name = omega (arith, e) in whole)
+      | inl e ↦ ap (λ d. get_or names d 0) (cond-true (eqb (name % 2) 0) _ _ (eq-eqb (name % 2) 0 e)) ∙ n.named.mention (name / 2) place ∙ (let whole : 2 * (name / 2) ≡ name = omega arith in whole)
+      | inr e ↦ ap (λ d. get_or names d 0) (cond-false (eqb (name % 2) 0) _ _ (ne_eqb (name % 2) 0 e)) ∙ n.named.other (name / 2) place ∙ (let whole : 2 * (name / 2) + 1 ≡ name = omega (arith, e) in whole)
     ]
 
 -- there are no more mentions than edges
@@ -153,13 +153,13 @@ renamed_is_canonical m darts names sigma n renamed =
     let new : RotationSystem = record { sigma = sigma; root = 0 } in
     let below : AreBelow (length m.sigma) darts = record { below = n.order.once.stays } in
     let mentions : first_mentions (map (slice_index names) darts) ≡ map (slice_index names) (first_mentions darts) =
-          first_mentions-map (length m.sigma) (slice_index names) darts (carries_keeps_twins (slice_index names) m new n.is_map.structure carries) below in
+    first_mentions-map (length m.sigma) (slice_index names) darts (carries_keeps_twins (slice_index names) m new n.is_map.structure carries) below in
     let order : darts_of (map (map (slice_index names)) n.order.vertices) ≡ map (slice_index names) darts =
-          darts_of-map (slice_index names) n.order.vertices ∙ ap (map (slice_index names)) (sym n.order.order) in
+    darts_of-map (slice_index names) n.order.vertices ∙ ap (map (slice_index names)) (sym n.order.order) in
     let all : first_mentions (darts_of (map (map (slice_index names)) n.order.vertices)) ≡ map (slice_index names) (first_mentions darts) = ap first_mentions order ∙ mentions in
     let named : (k : ℕ) → k < length (map (slice_index names) (first_mentions darts)) → get_or (map (slice_index names) (first_mentions darts)) k 0 ≡ 2 * k = λ k h.
-          (let within : k < length (first_mentions darts) = omega (arith, length-map (first_mentions darts) (slice_index names)) in
-          get_or-map (slice_index names) (first_mentions darts) k 0 0 within ∙ n.named.mention k within) in
+    (let within : k < length (first_mentions darts) = omega (arith, length-map (first_mentions darts) (slice_index names)) in
+    get_or-map (slice_index names) (first_mentions darts) k 0 0 within ∙ n.named.mention k within) in
     record {
       is_canonical = record {
         root = refl;
@@ -178,7 +178,7 @@ IsNumbered-from m sigma root listed darts kept names is_map is_sigma is_root ord
   is_map = is_map;
   order = subst (λ l. IsMeetingOrder (structure_of m) l) (sym is_darts)
       (subst (λ r. IsMeetingOrder (structure_of (record { sigma = m.sigma; root = r })) listed) is_root
-        (subst (λ l. IsMeetingOrder (structure_of (record { sigma = l; root = root })) listed) is_sigma order));
+      (subst (λ l. IsMeetingOrder (structure_of (record { sigma = l; root = root })) listed) is_sigma order));
   size = ap length is_names ∙ size ∙ ap length is_sigma;
   named = subst (λ l. NamesMentions darts l) (sym is_names) named;
 }

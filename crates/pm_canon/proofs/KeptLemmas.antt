@@ -20,19 +20,19 @@ HasEachOnce-push bound darts d once below fresh =
     let size : length (darts ++ d ∷ []) ≡ length darts + 1 = length_push darts d in
     record {
       stays = λ k h. elim (cases_lt k (length darts)) [
-          inl within ↦ omega (arith, get_or_append_left darts (d ∷ []) 0 k within, once.stays k within)
+        | inl within ↦ omega (arith, get_or_append_left darts (d ∷ []) 0 k within, once.stays k within)
         | inr past ↦ omega (arith, get_or_push darts d 0 k (omega arith))
-        ];
+      ];
       injective = λ j k hj hk same. elim (cases_lt j (length darts)) [
-          inl within_j ↦ elim (cases_lt k (length darts)) [
-            inl within_k ↦ once.injective j k within_j within_k (sym (get_or_append_left darts (d ∷ []) 0 j within_j) ∙ same ∙ get_or_append_left darts (d ∷ []) 0 k within_k)
+        | inl within_j ↦ elim (cases_lt k (length darts)) [
+          | inl within_k ↦ once.injective j k within_j within_k (sym (get_or_append_left darts (d ∷ []) 0 j within_j) ∙ same ∙ get_or_append_left darts (d ∷ []) 0 k within_k)
           | inr past_k ↦ absurd (fresh (j, record { within = within_j; here = sym (get_or_append_left darts (d ∷ []) 0 j within_j) ∙ same ∙ get_or_push darts d 0 k (omega arith) }))
-          ]
+        ]
         | inr past_j ↦ elim (cases_lt k (length darts)) [
-            inl within_k ↦ absurd (fresh (k, record { within = within_k; here = sym (get_or_append_left darts (d ∷ []) 0 k within_k) ∙ sym same ∙ get_or_push darts d 0 j (omega arith) }))
+          | inl within_k ↦ absurd (fresh (k, record { within = within_k; here = sym (get_or_append_left darts (d ∷ []) 0 k within_k) ∙ sym same ∙ get_or_push darts d 0 j (omega arith) }))
           | inr past_k ↦ omega arith
-          ]
-        ];
+        ]
+      ];
     }
 
 pub MarksDarts-push : (marks : List Bool) (darts : List ℕ) (d : ℕ) → MarksDarts marks darts → d < length marks
@@ -40,16 +40,16 @@ pub MarksDarts-push : (marks : List Bool) (darts : List ℕ) (d : ℕ) → Marks
 MarksDarts-push marks darts d m within =
     record {
       marked = λ e s. elim (cases_eq e d) [
-          inl same ↦ ap (λ k. get_or (set marks d true) k false) same ∙ get_or-set_same marks d true false within
+        | inl same ↦ ap (λ k. get_or (set marks d true) k false) same ∙ get_or-set_same marks d true false within
         | inr other ↦ elim (cases_push darts d e s) [
-            inl before ↦ get_or-set_other marks d e true false other ∙ m.marked e before
+          | inl before ↦ get_or-set_other marks d e true false other ∙ m.marked e before
           | inr last ↦ absurd (other (sym last))
-          ]
-        ];
+        ]
+      ];
       stands = λ e is. elim (cases_eq e d) [
-          inl same ↦ subst (λ k. Stands (darts ++ d ∷ []) k) (sym same) (Stands-push darts d)
+        | inl same ↦ subst (λ k. Stands (darts ++ d ∷ []) k) (sym same) (Stands-push darts d)
         | inr other ↦ Stands-append_left darts (d ∷ []) e (m.stands e (sym (get_or-set_other marks d e true false other) ∙ is))
-        ];
+      ];
     }
 
 -- a dart that isn't marked doesn't stand in the list

@@ -17,9 +17,9 @@ none_stands d s = let within : s.0 < 0 = s.1.within in omega arith
 
 false_stays : (n d : ℕ) → get_or (replicate n false) d false ≡ false
 false_stays n d = elim (cases_lt d n) [
-    inl h ↦ get_or-replicate n d false false h
+  | inl h ↦ get_or-replicate n d false false h
   | inr h ↦ get_or_past (replicate n false) d false (omega (arith, length-replicate n false))
-  ]
+]
 
 -- no dart is marked at first
 pub MarksDarts-none : (n : ℕ) → MarksDarts (replicate n false) []
@@ -52,9 +52,9 @@ IsMeeting-stands s marks darts place m within stands = record {
   order = m.order;
   within = omega arith;
   twins = λ k h. elim (cases_eq k place) [
-      inl here ↦ subst (λ j. Stands darts (s.twin (get_or darts j 0))) (sym here) stands
+    | inl here ↦ subst (λ j. Stands darts (s.twin (get_or darts j 0))) (sym here) stands
     | inr other ↦ m.twins k (omega (arith, other))
-    ];
+  ];
   kept = m.kept;
 }
 
@@ -69,9 +69,9 @@ IsMeeting-onward s old_marks marks old darts place m within unmet a kept =
     let begins = vertex_begins s (s.twin d) a.vertex a.is_vertex in
     let last : Stands (old ++ a.vertex) (s.twin d) = Stands-append_right old a.vertex (s.twin d) (0, record { within = begins.0; here = begins.1 }) in
     let twins : (k : ℕ) → k < place + 1 → Stands (old ++ a.vertex) (s.twin (get_or (old ++ a.vertex) k 0)) = λ k h. elim (cases_eq k place) [
-        inl here ↦ subst (λ j. Stands (old ++ a.vertex) (s.twin j)) (sym (same k (omega arith) ∙ ap (λ j. get_or old j 0) here)) last
+      | inl here ↦ subst (λ j. Stands (old ++ a.vertex) (s.twin j)) (sym (same k (omega arith) ∙ ap (λ j. get_or old j 0) here)) last
       | inr other ↦ subst (λ j. Stands (old ++ a.vertex) (s.twin j)) (sym (same k (omega (arith, other)))) (Stands-append_left old a.vertex (s.twin (get_or old k 0)) (m.twins k (omega (arith, other))))
-      ] in
+    ] in
     record {
       vertices = m.vertices ++ a.vertex ∷ [];
       meets = onward m.vertices d a.vertex m.meets (subst (λ l. IsNextUnmet s l d) m.order next_unmet) a.is_vertex;
@@ -85,8 +85,8 @@ IsMeeting-onward s old_marks marks old darts place m within unmet a kept =
 pub IsMeeting-all : (s : Structure) (marks : List Bool) (darts : List ℕ) (place : ℕ) → IsConnected s → 0 < s.darts → IsMeeting s marks darts place → length darts ≤ place → IsMeetingOrder s darts
 IsMeeting-all s marks darts place connected some m ends =
     let twins : (d : ℕ) → Stands darts d → Stands darts (s.twin d) = λ d stands.
-          (let within : stands.0 < length darts = stands.1.within in
-          subst (λ e. Stands darts (s.twin e)) stands.1.here (m.twins stands.0 (omega arith))) in
+    (let within : stands.0 < length darts = stands.1.within in
+    subst (λ e. Stands darts (s.twin e)) stands.1.here (m.twins stands.0 (omega arith))) in
     let is_list : IsMeetingList s m.vertices = complete m.vertices some m.meets (subst (λ l. (d : ℕ) → Stands l d → Stands l (s.twin d)) m.order twins) in
     record {
       vertices = m.vertices;

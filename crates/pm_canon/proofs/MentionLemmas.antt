@@ -21,10 +21,10 @@ IsSeen before darts d = (list_any (λ e. e == twin d) before ≡ true) ⊎ (list
 seen_later : (before : List ℕ) (x : ℕ) (darts : List ℕ) (d : ℕ) → IsSeen before (x ∷ darts) d → IsSeen (x ∷ before) darts d
 seen_later before x darts d seen =
     elim seen [
-      inl early ↦ inl (or_right (x == twin d) (list_any (λ e. e == twin d) before) early)
-    | inr late ↦ elim (or_cases (x == twin d) (list_any (λ e. e == twin d) darts) late) [
-        inl here ↦ inl (or_left (x == twin d) (list_any (λ e. e == twin d) before) here)
-      | inr later ↦ inr later
+      | inl early ↦ inl (or_right (x == twin d) (list_any (λ e. e == twin d) before) early)
+      | inr late ↦ elim (or_cases (x == twin d) (list_any (λ e. e == twin d) darts) late) [
+        | inl here ↦ inl (or_left (x == twin d) (list_any (λ e. e == twin d) before) here)
+        | inr later ↦ inr later
       ]
     ]
 
@@ -32,8 +32,8 @@ seen_later before x darts d seen =
 push_seen : (before darts : List ℕ) (d : ℕ) → IsSeen before darts d → first_mentions_after before (darts ++ d ∷ []) ≡ first_mentions_after before darts
 push_seen before [] d seen =
     elim seen [
-      inl early ↦ first_mentions_after-seen before d [] early
-    | inr late ↦ cc
+      | inl early ↦ first_mentions_after-seen before d [] early
+      | inr late ↦ cc
     ]
 push_seen before (x ∷ darts) d seen =
     ap (λ l. cond (list_any (λ e. e == twin x) before) l (x ∷ l)) (push_seen (x ∷ before) darts d (seen_later before x darts d seen))

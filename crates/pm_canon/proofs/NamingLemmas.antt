@@ -31,7 +31,6 @@ IsNaming-seen darts seen names name d n within stands =
       };
     }
 
-
 two_names-elsewhere : (names : List ℕ) (d name e : ℕ) → e ≢ d → e ≢ twin d → get_or (set (set names d name) (twin d) (name + 1)) e 0 ≡ get_or names e 0
 two_names-elsewhere names d name e not_d not_twin =
     get_or-set_other (set names d name) (twin d) e (name + 1) 0 not_twin ∙ get_or-set_other names d e name 0 not_d
@@ -60,21 +59,21 @@ IsNaming-new darts seen names name d n in_seen within twin_within fresh unseen =
     let not_d : (k : ℕ) → k < length mentions → get_or mentions k 0 ≢ d = λ k h e. fresh (subst (λ x. Stands darts x) e (stands k h)) in
     let not_twin : (k : ℕ) → k < length mentions → get_or mentions k 0 ≢ twin d = λ k h e. unseen (subst (λ x. Stands darts x) e (stands k h)) in
     let mention : (k : ℕ) → k < length (mentions ++ d ∷ []) → get_or new_names (get_or (mentions ++ d ∷ []) k 0) 0 ≡ 2 * k = λ k h. elim (cases_lt k (length mentions)) [
-        inl before ↦ ap (λ x. get_or new_names x 0) (left k before) ∙ two_names-elsewhere names d name (get_or mentions k 0) (not_d k before) (not_twin k before) ∙ n.named.mention k before
+      | inl before ↦ ap (λ x. get_or new_names x 0) (left k before) ∙ two_names-elsewhere names d name (get_or mentions k 0) (not_d k before) (not_twin k before) ∙ n.named.mention k before
       | inr last ↦
-        let is_last : k ≡ length mentions = omega arith in
-        ap (λ x. get_or new_names x 0) (right k is_last) ∙ two_names-here names d name within ∙ next ∙ ap (λ x. 2 * x) (sym is_last)
-      ] in
+          let is_last : k ≡ length mentions = omega arith in
+          ap (λ x. get_or new_names x 0) (right k is_last) ∙ two_names-here names d name within ∙ next ∙ ap (λ x. 2 * x) (sym is_last)
+    ] in
     let other : (k : ℕ) → k < length (mentions ++ d ∷ []) → get_or new_names (twin (get_or (mentions ++ d ∷ []) k 0)) 0 ≡ 2 * k + 1 = λ k h. elim (cases_lt k (length mentions)) [
-        inl before ↦ ap (λ x. get_or new_names (twin x) 0) (left k before)
+      | inl before ↦ ap (λ x. get_or new_names (twin x) 0) (left k before)
           ∙ two_names-elsewhere names d name (twin (get_or mentions k 0))
-            (λ e. not_twin k before (sym (twin-twin (get_or mentions k 0)) ∙ ap twin e))
-            (λ e. not_d k before (sym (twin-twin (get_or mentions k 0)) ∙ ap twin e ∙ twin-twin d))
+          (λ e. not_twin k before (sym (twin-twin (get_or mentions k 0)) ∙ ap twin e))
+          (λ e. not_d k before (sym (twin-twin (get_or mentions k 0)) ∙ ap twin e ∙ twin-twin d))
           ∙ n.named.other k before
       | inr last ↦
-        let is_last : k ≡ length mentions = omega arith in
-        ap (λ x. get_or new_names (twin x) 0) (right k is_last) ∙ two_names-twin names d name twin_within ∙ ap (λ x. x + 1) (next ∙ ap (λ x. 2 * x) (sym is_last))
-      ] in
+          let is_last : k ≡ length mentions = omega arith in
+          ap (λ x. get_or new_names (twin x) 0) (right k is_last) ∙ two_names-twin names d name twin_within ∙ ap (λ x. x + 1) (next ∙ ap (λ x. 2 * x) (sym is_last))
+    ] in
     record {
       next = omega (arith, ap length more);
       marking = MarksDarts-push seen darts d n.marking in_seen;

@@ -46,15 +46,15 @@ IsWay-push s start way dart w more =
       some = omega arith;
       begins = left 0 some ∙ w.begins;
       goes = λ k h. elim (cases_lt (suc k) (length way)) [
-          inl within ↦ left (suc k) within ∙ w.goes k within ∙ ap s.next (sym (left k (omega arith)))
+        | inl within ↦ left (suc k) within ∙ w.goes k within ∙ ap s.next (sym (left k (omega arith)))
         | inr last ↦
-          let is_last : k ≡ length way - 1 = omega arith in
-          right (suc k) (omega arith) ∙ sym w.leads ∙ ap s.next (ap (λ j. get_or way j 0) (sym is_last) ∙ sym (left k (omega arith)))
-        ];
+            let is_last : k ≡ length way - 1 = omega arith in
+            right (suc k) (omega arith) ∙ sym w.leads ∙ ap s.next (ap (λ j. get_or way j 0) (sym is_last) ∙ sym (left k (omega arith)))
+      ];
       once = λ k h e. elim (cases_lt (suc k) (length way)) [
-          inl within ↦ w.once k within (sym (left (suc k) within) ∙ e)
+        | inl within ↦ w.once k within (sym (left (suc k) within) ∙ e)
         | inr last ↦ more (sym (right (suc k) (omega arith)) ∙ e)
-        ];
+      ];
       leads = ap s.next (right (length (way ++ dart ∷ []) - 1) (omega arith));
     }
 
@@ -69,48 +69,49 @@ IsWay-fresh s old start way dart perm whole once w more stands =
     let last : ℕ = length way - 1 in
     let below : (k : ℕ) → k < length (old ++ way) → get_or (old ++ way) k 0 < s.darts = once.stays in
     let same_place : (j : ℕ) → j < length (old ++ way) → s.next (get_or (old ++ way) j 0) ≡ dart → j ≡ length old + last =
-          λ j h e. once.injective j (length old + last) h (omega arith)
-            (perm.injective (get_or (old ++ way) j 0) (get_or (old ++ way) (length old + last) 0) (below j h) (below (length old + last) (omega arith))
-              (e ∙ sym w.leads ∙ ap s.next (sym (right last)))) in
+    λ j h e. once.injective j (length old + last) h (omega arith)
+    (perm.injective (get_or (old ++ way) j 0) (get_or (old ++ way) (length old + last) 0) (below j h) (below (length old + last) (omega arith))
+    (e ∙ sym w.leads ∙ ap s.next (sym (right last)))) in
     elim (cases_Stands old way dart stands) [
-      inl in_old ↦
-        let before = whole.back dart in_old in
-        let here = before.stands.1 in
-        let within : before.stands.0 < length old = here.within in
-        let place : before.stands.0 ≡ length old + last = same_place before.stands.0 (omega arith)
-              (ap s.next (left before.stands.0 within ∙ here.here) ∙ before.leads) in
-        omega arith
-    | inr in_way ↦ at_place in_way.0 in_way.1.within in_way.1.here same_place
+      | inl in_old ↦
+          let before = whole.back dart in_old in
+          let here = before.stands.1 in
+          let within : before.stands.0 < length old = here.within in
+          let place : before.stands.0 ≡ length old + last = same_place before.stands.0 (omega arith)
+          (ap s.next (left before.stands.0 within ∙ here.here) ∙ before.leads) in
+          omega arith
+      | inr in_way ↦ at_place in_way.0 in_way.1.within in_way.1.here same_place
     ] where
-  at_place : (place : ℕ) → place < length way → get_or way place 0 ≡ dart
-      → ((j : ℕ) → j < length (old ++ way) → s.next (get_or (old ++ way) j 0) ≡ dart → j ≡ length old + (length way - 1)) → ⊥
-  at_place zero within here same_place = more (sym here ∙ w.begins)
-  at_place (suc k) within here same_place =
-      let size : length (old ++ way) ≡ length old + length way = length-append old way in
-      let place : length old + k ≡ length old + (length way - 1) = same_place (length old + k) (omega arith)
-            (ap s.next (get_or-append-add old way k 0) ∙ sym (w.goes k within) ∙ here) in
-      omega arith
+      at_place : (place : ℕ) → place < length way → get_or way place 0 ≡ dart
+          → ((j : ℕ) → j < length (old ++ way) → s.next (get_or (old ++ way) j 0) ≡ dart → j ≡ length old + (length way - 1)) → ⊥
+      at_place zero within here same_place = more (sym here ∙ w.begins)
+      at_place (suc k) within here same_place =
+          let size : length (old ++ way) ≡ length old + length way = length-append old way in
+          let place : length old + k ≡ length old + (length way - 1) = same_place (length old + k) (omega arith)
+          (ap s.next (get_or-append-add old way k 0) ∙ sym (w.goes k within) ∙ here) in
+          omega arith
 
 -- a walk that is back has gone around a whole vertex
 IsWay-whole : (s : Structure) (old : List ℕ) (start : ℕ) (way : List ℕ) → IsWhole s old → IsWay s start way start → IsWhole s (old ++ way)
 IsWay-whole s old start way whole w = record {
   onward = λ d stands. elim (cases_Stands old way d stands) [
-      inl in_old ↦ Stands-append_left old way (s.next d) (whole.onward d in_old)
+    | inl in_old ↦ Stands-append_left old way (s.next d) (whole.onward d in_old)
     | inr in_way ↦ Stands-append_right old way (s.next d) (onward_way d in_way.0 in_way.1.within in_way.1.here)
-    ];
+  ];
   back = λ d stands. elim (cases_Stands old way d stands) [
-      inl in_old ↦ let before = whole.back d in_old in record { before = before.before; stands = Stands-append_left old way before.before before.stands; leads = before.leads }
+    | inl in_old ↦ let before = whole.back d in_old in record { before = before.before; stands = Stands-append_left old way before.before before.stands; leads = before.leads }
     | inr in_way ↦ back_way d in_way.0 in_way.1.within in_way.1.here
-    ];
+  ];
 } where
   onward_way : (d place : ℕ) → place < length way → get_or way place 0 ≡ d → Stands way (s.next d)
   onward_way d place within here = elim (cases_lt (suc place) (length way)) [
-      inl more ↦ (suc place, record { within = more; here = w.goes place more ∙ ap s.next here })
+    | inl more ↦ (suc place, record { within = more; here = w.goes place more ∙ ap s.next here })
     | inr last ↦
-      let some : 0 < length way = w.some in
-      let is_last : length way - 1 ≡ place = omega arith in
-      (0, record { within = some; here = w.begins ∙ sym w.leads ∙ ap s.next (ap (λ j. get_or way j 0) is_last ∙ here) })
-    ]
+        let some : 0 < length way = w.some in
+        let is_last : length way - 1 ≡ place = omega arith in
+        (0, record { within = some; here = w.begins ∙ sym w.leads ∙ ap s.next (ap (λ j. get_or way j 0) is_last ∙ here) })
+  ]
+
   back_way : (d place : ℕ) → place < length way → get_or way place 0 ≡ d → Precedes s (old ++ way) d
   back_way d zero within here =
       let some : 0 < length way = w.some in
@@ -120,10 +121,10 @@ IsWay-whole s old start way whole w = record {
         leads = w.leads ∙ sym w.begins ∙ here;
       }
   back_way d (suc k) within here = record {
-      before = get_or way k 0;
-      stands = Stands-append_right old way (get_or way k 0) (Stands-get_or way k (omega arith));
-      leads = sym (w.goes k within) ∙ here;
-    }
+    before = get_or way k 0;
+    stands = Stands-append_right old way (get_or way k 0) (Stands-get_or way k (omega arith));
+    leads = sym (w.goes k within) ∙ here;
+  }
 
 IsWay-vertex : (s : Structure) (start : ℕ) (way : List ℕ) → IsWay s start way start → IsVertexFrom s start way
 IsWay-vertex s start [] w = absurd (omega (arith, w.some))

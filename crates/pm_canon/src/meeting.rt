@@ -27,7 +27,12 @@ pub fn meeting_list(alloc: Global, sigma: &[u32], root: u32) -> Result<Vec<u32>,
 }
 
 /// Appends all vertices in the order in which they are met. No dart is marked before.
-fn meet_all(sigma: &[u32], root: u32, marks: &mut [bool], darts: &mut Vec<u32>) -> Result<(), AllocError>
+fn meet_all(
+    sigma: &[u32],
+    root: u32,
+    marks: &mut [bool],
+    darts: &mut Vec<u32>,
+) -> Result<(), AllocError>
     requires map { IsRootedMap (record { sigma = sigma.now; root = root }) }
     requires some { 0 < length sigma.now }
     requires size { length marks.old ≡ length sigma.now }

@@ -6,7 +6,6 @@ ghost use Rattle.pm_canon.specs.Naming.{IsNaming, NamesMentions, IsRenamed};
 ghost use Rattle.pm_map.specs.Rotation.{twin};
 
 use crate::meeting::twin_of;
-
 use std::alloc::{AllocError, Global};
 
 /// The name of each dart by the order in which the list mentions the edges first.

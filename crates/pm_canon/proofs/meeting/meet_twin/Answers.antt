@@ -40,7 +40,7 @@ returns c =
     let is_dart : c.index.result.now ≡ get_or darts c.args.place 0 = get_or_read_under darts c.args.place (vec_len c.args.darts.now) c.index.result.now 0 c.index.ensures c.requires.within (omega arith) in
     let is_other : c.twin_of-other.result ≡ twin (get_or darts c.args.place 0) = c.twin_of-other.ensures ∙ ap twin is_dart in
     let unmet : Stands darts (twin (get_or darts c.args.place 0)) → ⊥ = λ stands.
-          false≢true (sym c.if-marks-other.false ∙ c.requires.meeting.kept.marking.marked c.twin_of-other.result (subst (λ d. Stands darts d) (sym is_other) stands)) in
+    false≢true (sym c.if-marks-other.false ∙ c.requires.meeting.kept.marking.marked c.twin_of-other.result (subst (λ d. Stands darts d) (sym is_other) stands)) in
     both _ _ _ _ c.append_vertex.ensures.appended c.append_vertex.ensures.kept (λ appended kept.
-        IsMeeting-onward s c.args.marks.now c.append_vertex.new.marks darts c.append_vertex.new.darts.items c.args.place c.requires.meeting (omega arith) unmet
-          (subst (λ d. AppendsVertex s d darts c.append_vertex.new.darts.items) is_other appended) kept)
+    IsMeeting-onward s c.args.marks.now c.append_vertex.new.marks darts c.append_vertex.new.darts.items c.args.place c.requires.meeting (omega arith) unmet
+    (subst (λ d. AppendsVertex s d darts c.append_vertex.new.darts.items) is_other appended) kept)

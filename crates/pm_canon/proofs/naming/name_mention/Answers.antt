@@ -18,7 +18,7 @@ returns-then-is_mentioned c =
     let below : dart < length c.args.names.now = c.requires.once.stays c.args.place c.requires.within in
     let stands : Stands before (twin dart) = subst (λ d. Stands before d) c.twin_of-other.ensures (c.requires.naming.marking.stands c.twin_of-other.result c.if-is_mentioned.true) in
     subst (λ l. IsNaming l (set c.args.seen.now dart true) c.args.names.now c.args.name) (sym (take_more darts c.args.place 0 c.requires.within))
-      (IsNaming-seen before c.args.seen.now c.args.names.now c.args.name dart c.requires.naming (omega arith) stands)
+    (IsNaming-seen before c.args.seen.now c.args.names.now c.args.name dart c.requires.naming (omega arith) stands)
 
 pub overflow_add-result : goal.overflow_add-result
 overflow_add-result c =
@@ -37,10 +37,10 @@ returns c =
     let names = c.args.names.now in
     let below : dart < length c.args.names.now = c.requires.once.stays c.args.place c.requires.within in
     let unseen : Stands before (twin dart) → ⊥ = λ stands.
-          false≢true (sym c.if-is_mentioned.false ∙ c.requires.naming.marking.marked c.twin_of-other.result (subst (λ d. Stands before d) (sym c.twin_of-other.ensures) stands)) in
+    false≢true (sym c.if-is_mentioned.false ∙ c.requires.naming.marking.marked c.twin_of-other.result (subst (λ d. Stands before d) (sym c.twin_of-other.ensures) stands)) in
     let named = IsNaming-new before c.args.seen.now names c.args.name dart c.requires.naming (omega arith) below (twin_below (length names) dart c.requires.even below)
-          (HasEachOnce-fresh _ darts c.args.place c.requires.once c.requires.within) unseen in
+    (HasEachOnce-fresh _ darts c.args.place c.requires.once c.requires.within) unseen in
     let at_other : IsNaming (before ++ dart ∷ []) (set c.args.seen.now dart true) (set (set names dart c.args.name) c.twin_of-other.result (c.args.name + 1)) (c.args.name + 2) =
-          subst (λ d. IsNaming (before ++ dart ∷ []) (set c.args.seen.now dart true) (set (set names dart c.args.name) d (c.args.name + 1)) (c.args.name + 2)) (sym c.twin_of-other.ensures) named in
+    subst (λ d. IsNaming (before ++ dart ∷ []) (set c.args.seen.now dart true) (set (set names dart c.args.name) d (c.args.name + 1)) (c.args.name + 2)) (sym c.twin_of-other.ensures) named in
     subst (λ l. IsNaming l (set c.args.seen.now dart true) (set (set names dart c.args.name) c.twin_of-other.result (c.args.name + 1)) (c.args.name + 2))
-      (sym (take_more darts c.args.place 0 c.requires.within)) at_other
+    (sym (take_more darts c.args.place 0 c.requires.within)) at_other
