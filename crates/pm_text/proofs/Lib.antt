@@ -1,0 +1,6 @@
+pub mod LineLemmas
+pub mod BrokenLemmas
+pub mod NumeralLemmas
+pub mod ReadingLemmas
+pub mod WordLemmas
+pub mod ReaderLemmas

@@ -1,0 +1,4 @@
+pub mod Broken
+pub mod Numeral
+pub mod Reading
+pub mod Spaced

@@ -1,0 +1,15 @@
+-- Numbers in texts: the decimal digits of a number of 64 bits, in their one spelling.
+use Rattle.std.specs.Prelude.{◌≡◌, ℕ, ◌<◌, ◌^◌, ◌↔◌, List, length, slice_index, decimal}
+use Rattle.std.specs.Str.Parse.{IsNumeral, digits_value}
+
+-- the word spells the number: it is `0`, or decimal digits without a leading zero, and the number that
+-- they write is at most 18446744073709551615
+pub record IsNumber (word : List ℕ) (number : ℕ) : Type 0 where
+  pub numeral : IsNumeral 10 word
+  pub no_leading_zero : slice_index word 0 ≡ 48 → length word ≡ 1
+  pub value : digits_value 10 word ≡ number
+  pub fits : number < 2 ^ 64
+
+-- a number of 64 bits has one spelling, the decimal digits that are printed of it, and other numbers have none
+abbrev pub HasOneSpelling : Type 0
+HasOneSpelling = (word : List ℕ) (number : ℕ) → IsNumber word number ↔ ((number < 2 ^ 64) × (word ≡ decimal number))

@@ -1,0 +1,57 @@
+//! Numbers in texts.
+ghost use Rattle.std.specs.Prelude.{◌≡◌, ℕ, ◌<◌, ◌^◌, ◌++◌, ◌↔◌, decimal, MatchOption, is_ok, if◌then◌else◌};
+ghost use Rattle.std.specs.Option.{SomeIff};
+ghost use Rattle.std.specs.Str.Parse.{AllDigits, digits_value};
+ghost use Rattle.pm_text.specs.Numeral.{IsNumber, HasOneSpelling};
+
+use std::alloc::{AllocError, Global};
+
+/// The number that `word` spells, where it is `0`, or decimal digits without a leading zero, of at
+/// most [`u64::MAX`]. `None` exactly elsewhere.
+pub fn number(word: &[u8]) -> Option<u64>
+    ensures cases { MatchOption result ((value : ℕ) → ¬ IsNumber word.now value) (IsNumber word.now) }
+    ensures exact { (value : ℕ) → (result ≡ Some value) ↔ IsNumber word.now value }
+{
+    if word.is_empty() || (word[0] == b'0' && word.len() > 1) {
+        return None;
+    }
+    read_digits(word)
+}
+
+// The number that decimal digits write, where there is no other byte and the number fits.
+fn read_digits(word: &[u8]) -> Option<u64>
+    ensures { let all = digits_value 10 word.now in
+        SomeIff result (AllDigits 10 word.now × (all < 2 ^ 64)) all }
+{
+    let mut value: u64 = 0;
+    for byte in word {
+        if !byte.is_ascii_digit() {
+            return None;
+        }
+        value = value.checked_mul(10)?.checked_add(u64::from(*byte - b'0'))?;
+    }
+    Some(value)
+}
+
+/// Appends the one spelling of `value` to `text`.
+///
+/// # Errors
+///
+/// Where memory runs out; `text` is then as before.
+#[tactic(auto, using(crate::proofs::NumeralLemmas::decimal_is_number))]
+pub fn put_number(alloc: Global, value: u64, text: &mut Vec<u8>) -> Result<(), AllocError>
+    ensures text { text.new.items
+        ≡ (if is_ok result then text.old.items ++ decimal value else text.old.items) }
+
+    // What is appended is read as the same value.
+    ensures read_again { IsNumber (decimal value) value }
+{
+    let spelling = value.to_string(alloc)?;
+    text.extend_from_slice(spelling.as_bytes())
+}
+
+/// A law: what [`put_number`] appends is the one word that spells the number, so [`number`] reads it
+/// again, and reads nothing else as that number.
+pub fn number_has_one_spelling()
+    ensures { HasOneSpelling }
+{}
