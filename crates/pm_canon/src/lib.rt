@@ -35,3 +35,6 @@ pub fn same(alloc: Global, first: &RootedMap, second: &RootedMap) -> Result<bool
     let second = canon(alloc, second)?;
     Ok(first.sigma() == second.sigma())
 }
+
+#[cfg(test)]
+mod tests;
