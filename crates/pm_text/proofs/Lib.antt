@@ -3,3 +3,4 @@ pub mod BrokenLemmas
 pub mod NumeralLemmas
 pub mod ReadingLemmas
 pub mod WordLemmas
+pub mod ReaderLemmas

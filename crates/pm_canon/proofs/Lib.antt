@@ -1,0 +1,6 @@
+pub mod CanonLemmas
+pub mod KeptLemmas
+pub mod MeetingLemmas
+pub mod MentionLemmas
+pub mod NamingLemmas
+pub mod WalkLemmas

@@ -1,0 +1,54 @@
+-- What a list of darts keeps while whole vertices are appended to it.
+use Rattle.std.specs.Prelude.{◌≡◌, ℕ, ◌<◌, ◌≤◌, Bool, false, IsTrue, List, ◌++◌, length, slice_index, slice_index_or}
+use Rattle.pm_map.specs.Structure.{Structure}
+use Rattle.pm_map.specs.Meeting.{Stands, IsVertexFrom, Meets, IsMeetingList, darts_of}
+
+-- the list has darts below the bound, and none of them twice
+pub record HasEachOnce (bound : ℕ) (darts : List ℕ) : Type 0 where
+  pub stays : (k : ℕ) → k < length darts → slice_index darts k < bound
+  pub injective : (j k : ℕ) → j < length darts → k < length darts → slice_index darts j ≡ slice_index darts k → j ≡ k
+
+-- some dart of the list is followed by this one
+pub record Precedes (s : Structure) (darts : List ℕ) (d : ℕ) : Type 0 where
+  pub before : ℕ
+  pub stands : Stands darts before
+  pub leads : s.next before ≡ d
+
+-- the list holds with a dart the whole vertex: the next dart and the one before
+pub record IsWhole (s : Structure) (darts : List ℕ) : Type 0 where
+  pub onward : (d : ℕ) → Stands darts d → Stands darts (s.next d)
+  pub back : (d : ℕ) → Stands darts d → Precedes s darts d
+
+-- exactly the darts of the list are marked
+pub record MarksDarts (marks : List Bool) (darts : List ℕ) : Type 0 where
+  pub marked : (d : ℕ) → Stands darts d → IsTrue (slice_index_or marks d false)
+  pub stands : (d : ℕ) → IsTrue (slice_index_or marks d false) → Stands darts d
+
+-- each dart stands once, the vertices are whole, and exactly these darts are marked
+pub record IsKept (s : Structure) (marks : List Bool) (darts : List ℕ) : Type 0 where
+  pub once : HasEachOnce s.darts darts
+  pub whole : IsWhole s darts
+  pub marking : MarksDarts marks darts
+
+-- the list has the darts of some vertices behind those it had
+pub record AppendsVertex (s : Structure) (start : ℕ) (old new : List ℕ) : Type 0 where
+  pub vertex : List ℕ
+  pub is_vertex : IsVertexFrom s start vertex
+  pub order : new ≡ old ++ vertex
+
+-- the list has the darts of the vertices met so far, and holds the twins of its first darts, up to this place
+pub record IsMeeting (s : Structure) (marks : List Bool) (darts : List ℕ) (place : ℕ) : Type 0 where
+  pub vertices : List (List ℕ)
+  pub meets : Meets s vertices
+  pub order : darts ≡ darts_of vertices
+  pub within : place ≤ length darts
+  pub twins : (k : ℕ) → k < place → Stands darts (s.twin (slice_index darts k))
+  pub kept : IsKept s marks darts
+
+-- the list is the meeting list, and has each dart once
+pub record IsMeetingOrder (s : Structure) (darts : List ℕ) : Type 0 where
+  pub vertices : List (List ℕ)
+  pub is_list : IsMeetingList s vertices
+  pub order : darts ≡ darts_of vertices
+  pub once : HasEachOnce s.darts darts
+  pub all : (d : ℕ) → d < s.darts → Stands darts d

@@ -1,0 +1,99 @@
+ghost use Rattle.std.specs.Prelude.{◌≡◌, ◌+◌, ◌<◌, length, IfOk, OnOk, false, slice_get, Some, vec_len, []};
+ghost use Rattle.pm_map.specs.Rotation.{IsRootedMap, RotationSystem, structure_of, twin};
+ghost use Rattle.pm_canon.specs.Kept.{IsKept, AppendsVertex, IsMeeting, IsMeetingOrder};
+
+use std::alloc::{AllocError, Global};
+
+/// The other dart of the edge.
+pub fn twin_of(dart: u32) -> u32
+    requires { dart < 4294967295 }
+    ensures { result ≡ twin dart }
+{
+    if dart % 2 == 0 { dart + 1 } else { dart - 1 }
+}
+
+/// The darts of the map in the order in which its vertices are met from the root.
+pub fn meeting_list(alloc: Global, sigma: &[u32], root: u32) -> Result<Vec<u32>, AllocError>
+    requires { IsRootedMap (record { sigma = sigma.now; root = root }) }
+    ensures { IfOk result (λ darts. IsMeetingOrder (structure_of (record { sigma = sigma.now; root = root })) darts.items) }
+{
+    let mut darts = Vec::with_capacity(alloc, sigma.len())?;
+    if sigma.is_empty() {
+        return Ok(darts);
+    }
+    let mut marks = vec![in alloc; false; sigma.len()]?;
+    meet_all(sigma, root, &mut marks, &mut darts)?;
+    Ok(darts)
+}
+
+/// Appends all vertices in the order in which they are met. No dart is marked before.
+fn meet_all(
+    sigma: &[u32],
+    root: u32,
+    marks: &mut [bool],
+    darts: &mut Vec<u32>,
+) -> Result<(), AllocError>
+    requires map { IsRootedMap (record { sigma = sigma.now; root = root }) }
+    requires some { 0 < length sigma.now }
+    requires size { length marks.old ≡ length sigma.now }
+    requires unmarked { slice_get marks.old root ≡ Some false }
+    requires empty { darts.old.items ≡ [] }
+    requires kept { IsKept (structure_of (record { sigma = sigma.now; root = root })) marks.old [] }
+    ensures { OnOk result (IsMeetingOrder (structure_of (record { sigma = sigma.now; root = root })) darts.new.items) }
+{
+    append_vertex(sigma, root, root, marks, darts)?;
+    let mut place = 0;
+    'meet: while place < darts.len() {
+        meet_twin(sigma, root, place, marks, darts)?;
+        place += 1;
+    }
+    Ok(())
+}
+
+/// Appends the vertex of the twin of the dart at this place, unless that twin is marked.
+fn meet_twin(
+    sigma: &[u32],
+    root: u32,
+    place: usize,
+    marks: &mut [bool],
+    darts: &mut Vec<u32>,
+) -> Result<(), AllocError>
+    requires map { IsRootedMap (record { sigma = sigma.now; root = root }) }
+    requires size { length marks.old ≡ length sigma.now }
+    requires within { place < vec_len darts.old }
+    requires meeting { IsMeeting (structure_of (record { sigma = sigma.now; root = root })) marks.old darts.old.items place }
+    ensures { OnOk result (IsMeeting (structure_of (record { sigma = sigma.now; root = root })) marks.new darts.new.items (place + 1)) }
+{
+    let other = twin_of(darts[place]);
+    if marks[other as usize] {
+        return Ok(());
+    }
+    append_vertex(sigma, root, other, marks, darts)
+}
+
+/// Appends the darts of the vertex of `start`, from `start` on, and marks them. No dart of that vertex is in the list.
+fn append_vertex(
+    sigma: &[u32],
+    root: u32,
+    start: u32,
+    marks: &mut [bool],
+    darts: &mut Vec<u32>,
+) -> Result<(), AllocError>
+    requires map { IsRootedMap (record { sigma = sigma.now; root = root }) }
+    requires within { start < length sigma.now }
+    requires size { length marks.old ≡ length sigma.now }
+    requires unmarked { slice_get marks.old start ≡ Some false }
+    requires kept { IsKept (structure_of (record { sigma = sigma.now; root = root })) marks.old darts.old.items }
+    ensures appended { OnOk result (AppendsVertex (structure_of (record { sigma = sigma.now; root = root })) start darts.old.items darts.new.items) }
+    ensures kept { OnOk result (IsKept (structure_of (record { sigma = sigma.now; root = root })) marks.new darts.new.items) }
+{
+    marks[start as usize] = true;
+    darts.push(start)?;
+    let mut dart = sigma[start as usize];
+    'walk: while dart != start {
+        marks[dart as usize] = true;
+        darts.push(dart)?;
+        dart = sigma[dart as usize];
+    }
+    Ok(())
+}
