@@ -1,0 +1,6 @@
+//! Map files: the text of a rooted map.
+#![tactic(auto)]
+
+mod write;
+
+pub use write::put_map;
