@@ -59,7 +59,7 @@ IsPrinting-step s start old text new count dart turns p more added =
       once = HasEachOnce-push s.darts p.way dart p.once (IsWay-below s [] start p.way dart turns p.once p.is_way) fresh;
       size = omega (arith, p.size, length_push p.way dart);
       printed = added ∙ ap (λ l. l ++ dart_words (dart ∷ [])) p.printed ∙ append_assoc old (codes "v" ++ dart_words p.way) (dart_words (dart ∷ []))
-        ∙ ap (λ l. old ++ l) (append_assoc (codes "v") (dart_words p.way) (dart_words (dart ∷ [])) ∙ ap (λ l. codes "v" ++ l) (sym (dart_words-append p.way (dart ∷ []))));
+          ∙ ap (λ l. old ++ l) (append_assoc (codes "v") (dart_words p.way) (dart_words (dart ∷ [])) ∙ ap (λ l. codes "v" ++ l) (sym (dart_words-append p.way (dart ∷ []))));
     }
 
 pub IsPrinting-below : (s : Structure) (start : ℕ) (old text : List ℕ) (count dart : ℕ) → IsPermutationBelow s.darts s.next → IsPrinting s start old text count dart → dart < s.darts
@@ -121,9 +121,9 @@ onward_printing s darts old text new place count done [] is_list none order at p
 onward_printing s darts old text new place count done (v ∷ rest) is_list (some d _ _ is later) order at printed h a =
     let begins = vertex_begins s d v is in
     let first : get_or darts place 0 ≡ d =
-          ap (λ l. get_or l place 0) order ∙ get_or-append_right (darts_of done) (v ++ darts_of rest) (length (darts_of done)) place 0 refl (omega arith)
-          ∙ ap (λ k. get_or (v ++ darts_of rest) k 0) (let none_between : place - length (darts_of done) ≡ 0 = omega arith in none_between)
-          ∙ get_or_append_left v (darts_of rest) 0 0 begins.0 ∙ begins.1 in
+    ap (λ l. get_or l place 0) order ∙ get_or-append_right (darts_of done) (v ++ darts_of rest) (length (darts_of done)) place 0 refl (omega arith)
+    ∙ ap (λ k. get_or (v ++ darts_of rest) k 0) (let none_between : place - length (darts_of done) ≡ 0 = omega arith in none_between)
+    ∙ get_or_append_left v (darts_of rest) 0 0 begins.0 ∙ begins.1 in
     let same : a.vertex ≡ v = vertex_is_unique s d a.vertex v (subst (λ e. IsVertexFrom s e a.vertex) first a.is_vertex) is in
     let more : darts_of (done ++ v ∷ []) ≡ darts_of done ++ v = darts_of-append done (v ∷ []) ∙ ap (λ l. darts_of done ++ l) (append-nil v) in
     let lines : vertex_lines (done ++ v ∷ []) ≡ vertex_lines done ++ vertex_line v = vertex_lines-append done (v ∷ []) ∙ ap (λ l. vertex_lines done ++ l) (append-nil (vertex_line v)) in
@@ -135,7 +135,7 @@ onward_printing s darts old text new place count done (v ∷ rest) is_list (some
       order = order ∙ sym (append_assoc (darts_of done) v (darts_of rest)) ∙ ap (λ l. l ++ darts_of rest) (sym more);
       at = omega (arith, a.size, ap length same, ap length more, length-append (darts_of done) v);
       printed = a.appended ∙ ap (λ l. l ++ vertex_line a.vertex) printed ∙ append_assoc old (vertex_lines done) (vertex_line a.vertex)
-        ∙ ap (λ l. old ++ l) (ap (λ w. vertex_lines done ++ vertex_line w) same ∙ sym lines);
+          ∙ ap (λ l. old ++ l) (ap (λ w. vertex_lines done ++ vertex_line w) same ∙ sym lines);
     }
 
 pub ArePrinting-onward : (s : Structure) (darts old text new : List ℕ) (place count : ℕ) → ArePrinting s darts old text place → place < length darts

@@ -32,6 +32,10 @@ pub record IsMapText (m : RotationSystem) (text : List ℕ) : Type 0 where
   pub is_list : IsMeetingList (structure_of m) vertices
   pub is_text : text ≡ map_text m vertices
 
+-- a law: a map has one text
+abbrev pub HasOneText : Type 0
+HasOneText = (m : RotationSystem) (one other : List ℕ) → IsMapText m one → IsMapText m other → one ≡ other
+
 -- the text of the map is added
 pub record AppendsMapText (m : RotationSystem) (old new : List ℕ) : Type 0 where
   pub bytes : List ℕ

@@ -3,4 +3,7 @@
 
 mod write;
 
-pub use write::put_map;
+pub use write::{map_has_one_text, put_map};
+
+#[cfg(test)]
+mod tests;

@@ -1,7 +1,7 @@
 ghost use Rattle.std.specs.Prelude.{◌≡◌, ◌*◌, ◌++◌, ◌∷◌, ◌<◌, [], length, IfOk, OnOk, OnErr};
 ghost use Rattle.pm_map.specs.Rotation.{IsRootedMap, RotationSystem, structure_of};
 ghost use Rattle.pm_canon.specs.Kept.{IsMeetingOrder};
-ghost use Rattle.pm_mapfile.specs.MapText.{dart_words, map_line, IsMapText, AppendsMapText, AppendsLines, AppendsLine};
+ghost use Rattle.pm_mapfile.specs.MapText.{dart_words, map_line, HasOneText, IsMapText, AppendsMapText, AppendsLines, AppendsLine};
 
 use pm_canon::meeting_list;
 use pm_map::RootedMap;
@@ -22,6 +22,11 @@ pub fn put_map(alloc: Global, map: &RootedMap, text: &mut Vec<u8>) -> Result<(),
     text.extend_from_slice(&bytes)
 }
 
+/// A law: a map has one text, the one that [`put_map`] appends.
+pub fn map_has_one_text()
+    ensures { HasOneText }
+{}
+
 /// The text of `map`.
 fn map_bytes(alloc: Global, map: &RootedMap) -> Result<Vec<u8>, AllocError>
     ensures { IfOk result (λ bytes. IsMapText map.now bytes.items) }
@@ -37,7 +42,12 @@ fn map_bytes(alloc: Global, map: &RootedMap) -> Result<Vec<u8>, AllocError>
 }
 
 /// Appends the line of the number of edges and the root.
-fn put_first_line(alloc: Global, edges: u32, root: u32, text: &mut Vec<u8>) -> Result<(), AllocError>
+fn put_first_line(
+    alloc: Global,
+    edges: u32,
+    root: u32,
+    text: &mut Vec<u8>,
+) -> Result<(), AllocError>
     ensures { OnOk result (text.new.items ≡ text.old.items ++ map_line edges root) }
 {
     text.extend_from_slice(b"map ")?;
