@@ -27,7 +27,7 @@ pub record IsWalking (s : Structure) (old : List ℕ) (start : ℕ) (marks : Lis
   pub once : HasEachOnce s.darts (old ++ way)
   pub marking : MarksDarts marks (old ++ way)
 
-IsWay-one : (s : Structure) (start : ℕ) → IsWay s start (start ∷ []) (s.next start)
+pub IsWay-one : (s : Structure) (start : ℕ) → IsWay s start (start ∷ []) (s.next start)
 IsWay-one s start = record {
   some = omega arith;
   begins = refl;
@@ -36,7 +36,7 @@ IsWay-one s start = record {
   leads = refl;
 }
 
-IsWay-push : (s : Structure) (start : ℕ) (way : List ℕ) (dart : ℕ) → IsWay s start way dart → dart ≢ start → IsWay s start (way ++ dart ∷ []) (s.next dart)
+pub IsWay-push : (s : Structure) (start : ℕ) (way : List ℕ) (dart : ℕ) → IsWay s start way dart → dart ≢ start → IsWay s start (way ++ dart ∷ []) (s.next dart)
 IsWay-push s start way dart w more =
     let size : length (way ++ dart ∷ []) ≡ length way + 1 = length_push way dart in
     let some : 0 < length way = w.some in
@@ -59,7 +59,7 @@ IsWay-push s start way dart w more =
     }
 
 -- the dart that comes next stands nowhere yet, unless the walk is back at the start
-IsWay-fresh : (s : Structure) (old : List ℕ) (start : ℕ) (way : List ℕ) (dart : ℕ) → IsPermutationBelow s.darts s.next → IsWhole s old
+pub IsWay-fresh : (s : Structure) (old : List ℕ) (start : ℕ) (way : List ℕ) (dart : ℕ) → IsPermutationBelow s.darts s.next → IsWhole s old
     → HasEachOnce s.darts (old ++ way) → IsWay s start way dart → dart ≢ start → Stands (old ++ way) dart → ⊥
 IsWay-fresh s old start way dart perm whole once w more stands =
     let size : length (old ++ way) ≡ length old + length way = length-append old way in
@@ -126,7 +126,7 @@ IsWay-whole s old start way whole w = record {
     leads = sym (w.goes k within) ∙ here;
   }
 
-IsWay-vertex : (s : Structure) (start : ℕ) (way : List ℕ) → IsWay s start way start → IsVertexFrom s start way
+pub IsWay-vertex : (s : Structure) (start : ℕ) (way : List ℕ) → IsWay s start way start → IsVertexFrom s start way
 IsWay-vertex s start [] w = absurd (omega (arith, w.some))
 IsWay-vertex s start (d ∷ way) w = record { begins = ap Some w.begins; goes = w.goes; ends = w.leads; once = w.once }
 
@@ -170,12 +170,14 @@ pub IsWalking-once : (s : Structure) (old : List ℕ) (start : ℕ) (marks : Lis
 IsWalking-once s old start marks darts dart w = subst (λ l. HasEachOnce s.darts l) (sym w.order) w.once
 
 -- the dart that comes next is a dart
-pub IsWalking-below : (s : Structure) (old : List ℕ) (start : ℕ) (marks : List Bool) (darts : List ℕ) (dart : ℕ) → IsPermutationBelow s.darts s.next
-    → IsWalking s old start marks darts dart → dart < s.darts
-IsWalking-below s old start marks darts dart perm w =
-    let some : 0 < length w.way = w.is_way.some in
-    let size : length (old ++ w.way) ≡ length old + length w.way = length-append old w.way in
-    let place : ℕ = length w.way - 1 in
-    let here : get_or (old ++ w.way) (length old + place) 0 < s.darts = w.once.stays (length old + place) (omega arith) in
-    let last : get_or w.way place 0 < s.darts = subst (λ x. x < s.darts) (get_or-append-add old w.way place 0) here in
-    subst (λ x. x < s.darts) w.is_way.leads (perm.stays (get_or w.way place 0) last)
+pub IsWay-below : (s : Structure) (old : List ℕ) (start : ℕ) (way : List ℕ) (dart : ℕ) → IsPermutationBelow s.darts s.next → HasEachOnce s.darts (old ++ way) → IsWay s start way dart → dart < s.darts
+IsWay-below s old start way dart perm once w =
+    let some : 0 < length way = w.some in
+    let size : length (old ++ way) ≡ length old + length way = length-append old way in
+    let place : ℕ = length way - 1 in
+    let here : get_or (old ++ way) (length old + place) 0 < s.darts = once.stays (length old + place) (omega arith) in
+    let last : get_or way place 0 < s.darts = subst (λ x. x < s.darts) (get_or-append-add old way place 0) here in
+    subst (λ x. x < s.darts) w.leads (perm.stays (get_or way place 0) last)
+
+pub IsWalking-below : (s : Structure) (old : List ℕ) (start : ℕ) (marks : List Bool) (darts : List ℕ) (dart : ℕ) → IsPermutationBelow s.darts s.next → IsWalking s old start marks darts dart → dart < s.darts
+IsWalking-below s old start marks darts dart perm w = IsWay-below s old start w.way dart perm w.once w.is_way

@@ -9,6 +9,8 @@ ghost use Rattle.pm_map.specs.Structure.{Same};
 mod meeting;
 mod naming;
 
+pub use meeting::meeting_list;
+
 use pm_map::RootedMap;
 use std::alloc::{AllocError, Global};
 

@@ -5,7 +5,7 @@ ghost use Rattle.pm_canon.specs.Kept.{IsKept, AppendsVertex, IsMeeting, IsMeetin
 use std::alloc::{AllocError, Global};
 
 /// The other dart of the edge.
-pub fn twin_of(dart: u32) -> u32
+pub(crate) fn twin_of(dart: u32) -> u32
     requires { dart < 4294967295 }
     ensures { result ≡ twin dart }
 {

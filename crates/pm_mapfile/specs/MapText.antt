@@ -1,0 +1,56 @@
+-- The text of a map: a line `map E R` with the number of edges and the root, a line for each vertex, and a line `end`.
+use Rattle.std.specs.Prelude.{◌≡◌, ℕ, ◌/◌, List, [], ◌∷◌, ◌++◌, length, decimal, codes}
+use Rattle.pm_map.specs.Structure.{Structure}
+use Rattle.pm_map.specs.Rotation.{RotationSystem, structure_of}
+use Rattle.pm_map.specs.Meeting.{IsMeetingList, IsVertexFrom}
+
+-- a space before each dart (32 is the space, 10 the newline)
+abbrev pub dart_words : List ℕ → List ℕ
+dart_words [] = []
+dart_words (d ∷ darts) = 32 ∷ decimal d ++ dart_words darts
+
+-- the line of a vertex: `v`, and its darts in order
+abbrev pub vertex_line : List ℕ → List ℕ
+vertex_line vertex = codes "v" ++ dart_words vertex ++ 10 ∷ []
+
+-- the lines of some vertices
+abbrev pub vertex_lines : List (List ℕ) → List ℕ
+vertex_lines [] = []
+vertex_lines (vertex ∷ vertices) = vertex_line vertex ++ vertex_lines vertices
+
+-- the first line
+abbrev pub map_line : ℕ → ℕ → List ℕ
+map_line edges root = codes "map " ++ decimal edges ++ 32 ∷ [] ++ decimal root ++ 10 ∷ []
+
+-- the text of a map with its vertices in this order
+abbrev pub map_text : RotationSystem → List (List ℕ) → List ℕ
+map_text m vertices = map_line (length m.sigma / 2) m.root ++ vertex_lines vertices ++ codes "end\n"
+
+-- the text of the map: its vertices stand in the order of the meeting list, each from the dart at which it is met
+pub record IsMapText (m : RotationSystem) (text : List ℕ) : Type 0 where
+  pub vertices : List (List ℕ)
+  pub is_list : IsMeetingList (structure_of m) vertices
+  pub is_text : text ≡ map_text m vertices
+
+-- a law: a map has one text
+abbrev pub HasOneText : Type 0
+HasOneText = (m : RotationSystem) (one other : List ℕ) → IsMapText m one → IsMapText m other → one ≡ other
+
+-- the text of the map is added
+pub record AppendsMapText (m : RotationSystem) (old new : List ℕ) : Type 0 where
+  pub bytes : List ℕ
+  pub is_map_text : IsMapText m bytes
+  pub appended : new ≡ old ++ bytes
+
+-- the lines of all vertices are added
+pub record AppendsLines (s : Structure) (old new : List ℕ) : Type 0 where
+  pub vertices : List (List ℕ)
+  pub is_list : IsMeetingList s vertices
+  pub appended : new ≡ old ++ vertex_lines vertices
+
+-- the line of this vertex is added, and so many are its darts
+pub record AppendsLine (s : Structure) (start count : ℕ) (old new : List ℕ) : Type 0 where
+  pub vertex : List ℕ
+  pub is_vertex : IsVertexFrom s start vertex
+  pub size : count ≡ length vertex
+  pub appended : new ≡ old ++ vertex_line vertex

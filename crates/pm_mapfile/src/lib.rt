@@ -1,0 +1,9 @@
+//! Map files: the text of a rooted map.
+#![tactic(auto)]
+
+mod write;
+
+pub use write::{map_has_one_text, put_map};
+
+#[cfg(test)]
+mod tests;
