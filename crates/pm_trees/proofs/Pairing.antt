@@ -86,11 +86,12 @@ pairing_close word other other' xs ys r s i j x o e f g h k p =
 pub opener_is_there : (word other xs : List ℕ) (i : ℕ) → IsMatched word → slice_index word i ≡ CLOSE → IsPairing word other xs i → 0 < length xs
 opener_is_there word other xs i m o p =
     elim (cases_lt 0 (length xs)) [
-      inl l ↦ l
-    | inr g ↦
-        let e : xs ≡ [] = nil_from_length xs (omega arith) in
-        let P : List ℕ → Type 0 = λ zs. IsRead (contour word) (λ k. get_or other k 0) (reverse zs) (suc i) in
-        absurd (close_has_opener word i m o (subst P e p.read).chain) ]
+      | inl l ↦ l
+      | inr g ↦
+          let e : xs ≡ [] = nil_from_length xs (omega arith) in
+          let P : List ℕ → Type 0 = λ zs. IsRead (contour word) (λ k. get_or other k 0) (reverse zs) (suc i) in
+          absurd (close_has_opener word i m o (subst P e p.read).chain)
+    ]
 
 pub pairing_end : (word other xs : List ℕ) (i : ℕ) → i ≡ length word → IsMatched word → IsPairing word other xs i → IsBracketing (contour word) other
 pairing_end word other xs i e m p =
