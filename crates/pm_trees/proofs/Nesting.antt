@@ -1,9 +1,9 @@
 -- Laws of bracket pairs: a bracket has one other bracket, and pairs are nested.
-use Rattle.std.proofs.Common.{◌≡◌, ℕ, suc, ◌+◌, ◌≤◌, ◌<◌, ◌⊎◌, inl, inr, List, length, slice_index, refl, ap, ◌∙◌, sym, subst, arith}
-use Rattle.std.proofs.lemmas.Bool.{cases_lt, cases_eq, cases_order}
+use Rattle.std.proofs.Common.{◌≡◌, ℕ, suc, ◌<◌, inl, inr, List, length, slice_index, ap, ◌∙◌, sym, subst, arith}
+use Rattle.std.proofs.lemmas.Bool.{cases_eq, cases_order}
 use Rattle.pm_trees.specs.declared.letters.TheConstants.{OPEN, CLOSE}
 use Rattle.pm_trees.specs.Word.{IsBracketPair, IsBracketing}
-use Rattle.pm_trees.proofs.Levels.{inside, seen, seen_yes, seen_no, IsEven, even_from_pair}
+use Rattle.pm_trees.proofs.Levels.{inside, seen_yes, seen_no, even_from_pair}
 
 -- of two `)` after one `(`, the first closes it alone
 no_later_closer : (places : List ℕ) (p q r : ℕ) → IsBracketPair places p q → IsBracketPair places p r → q < r → ⊥

@@ -1,9 +1,9 @@
 -- The list of the other brackets as it grows.
-use Rattle.std.proofs.Common.{◌≡◌, ◌≢◌, ℕ, zero, suc, ◌+◌, ◌≤◌, ◌<◌, ◌⊎◌, inl, inr, List, [], ◌∷◌, ◌++◌, length, reverse, slice_index, get_or, set, Option, Some, None, option_to_list, refl, ap, ◌∙◌, sym, subst, arith}
-use Rattle.std.proofs.lemmas.Bool.{cases_lt, cases_eq}
-use Rattle.std.proofs.lemmas.List.{nil_from_length, length-reverse, length-set, length_push, get_or_append_left, get_or_push, get_or-set_same, get_or-set_other}
-use Rattle.pm_trees.specs.declared.letters.TheConstants.{LEAF, BUD, OPEN, CLOSE}
-use Rattle.pm_trees.specs.Word.{contour, IsMatched, IsBracketPair, IsBracketing}
+use Rattle.std.proofs.Common.{◌≡◌, ℕ, suc, ◌<◌, inl, inr, List, [], ◌∷◌, ◌++◌, length, reverse, slice_index, get_or, set, Option, Some, option_to_list, refl, ap, ◌∙◌, sym, subst, arith}
+use Rattle.std.proofs.lemmas.Bool.{cases_lt}
+use Rattle.std.proofs.lemmas.List.{nil_from_length, length-set, length_push, get_or_append_left, get_or_push, get_or-set_same, get_or-set_other}
+use Rattle.pm_trees.specs.declared.letters.TheConstants.{OPEN, CLOSE}
+use Rattle.pm_trees.specs.Word.{contour, IsMatched, IsBracketing}
 use Rattle.pm_trees.proofs.Own.{IsOther}
 use Rattle.pm_trees.proofs.Levels.{inside}
 use Rattle.pm_trees.proofs.Reading.{reverse_push}

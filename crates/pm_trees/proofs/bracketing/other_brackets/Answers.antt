@@ -1,5 +1,5 @@
-use Rattle.std.proofs.Common.{rules, arith, suc, ◌≡◌, ◌+◌, ◌++◌, ◌∷◌, [], set, refl, ap, sym, ◌∙◌, is_some, true, false, slice_index}
-use Rattle.pm_trees.proofs.Pairing.{pairing_start, pairing_other, pairing_open, pairing_close, pairing_end, opener_within, opener_is_there}
+use Rattle.std.proofs.Common.{arith, ◌+◌}
+use Rattle.pm_trees.proofs.Pairing.{pairing_other, pairing_open, pairing_close, pairing_end, opener_within, opener_is_there}
 use Rattle.pm_trees.proofs.bracketing.other_brackets.Goals as goal
 use Rattle.pm_trees.proofs.bracketing.other_brackets.Goals.{then-letter-eq-CLOSE+in_ok-push-2, else-letter-eq-CLOSE+in_ok-push-4, then-letter-eq-OPEN+in_ok-push-3, else-letter-eq-OPEN}
 
