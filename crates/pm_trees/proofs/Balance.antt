@@ -10,7 +10,7 @@ use Rattle.pm_trees.proofs.Tally.IsOneOf.{a_leaf, a_bud, an_open, a_close}
 use Rattle.pm_trees.proofs.Own.{IsOther, own_length, own_buds, own_length_is, own_buds_is, own_length-nil, own_buds-nil, own_length_other_here, own_length_other_above, own_length_open_here, own_length_open_above, own_length_close_here, own_length_close_above, own_buds_bud_here, own_buds_other_here, own_buds_other_above, own_buds_open_here, own_buds_open_above, own_buds_close_here, own_buds_close_above}
 
 -- the sum of the first n values
-abbrev total : ℕ → (ℕ → ℕ) → ℕ
+abbrev pub total : ℕ → (ℕ → ℕ) → ℕ
 total zero f = 0
 total (suc n) f = f 0 + total n (λ k. f (suc k))
 
@@ -23,19 +23,19 @@ total_none zero f h = refl
 total_none (suc n) f h = let p = total_none n (λ k. f (suc k)) (λ k. h (suc k)) in let q = h 0 in omega (arith, p, q)
 
 -- what is left of a word whose first n levels are open, and whose further nodes have their buds
-record Rest (n : ℕ) (xs : List ℕ) : Type 0 where
-  letters : All (λ x. IsTrue (is_letter x)) xs
-  not_below : (k : ℕ) → tally CLOSE (take k xs) ≤ n + tally OPEN (take k xs)
-  budded : (k : ℕ) → slice_index xs k ≡ OPEN → 2 * suc (own_buds 0 (drop (suc k) xs)) ≡ suc (own_length 0 (drop (suc k) xs))
+pub record Rest (n : ℕ) (xs : List ℕ) : Type 0 where
+  pub letters : All (λ x. IsTrue (is_letter x)) xs
+  pub not_below : (k : ℕ) → tally CLOSE (take k xs) ≤ n + tally OPEN (take k xs)
+  pub budded : (k : ℕ) → slice_index xs k ≡ OPEN → 2 * suc (own_buds 0 (drop (suc k) xs)) ≡ suc (own_length 0 (drop (suc k) xs))
 
-abbrev lengths : ℕ → List ℕ → ℕ
+abbrev pub lengths : ℕ → List ℕ → ℕ
 lengths n xs = total n (λ k. own_length k xs)
 
-abbrev bud_counts : ℕ → List ℕ → ℕ
+abbrev pub bud_counts : ℕ → List ℕ → ℕ
 bud_counts n xs = total n (λ k. own_buds k xs)
 
-record Balanced (n : ℕ) (xs : List ℕ) : Type 0 where
-  sums : lengths n xs + tally BUD xs ≡ tally LEAF xs + 2 * bud_counts n xs
+pub record Balanced (n : ℕ) (xs : List ℕ) : Type 0 where
+  pub sums : lengths n xs + tally BUD xs ≡ tally LEAF xs + 2 * bud_counts n xs
 
 rest_other : (n x : ℕ) (xs : List ℕ) → IsOther x → Rest n (x ∷ xs) → Rest n xs
 rest_other n x xs o r = record {
@@ -134,7 +134,7 @@ close_step : (xs : List ℕ) (n : ℕ) → Rest n (CLOSE ∷ xs) → ((m : ℕ) 
 close_step xs zero r h = absurd (no_close xs r)
 close_step xs (suc m) r h = balanced_close (suc m) xs (h m (rest_close m xs r))
 
-balance : (xs : List ℕ) (n : ℕ) → Rest n xs → Balanced (suc n) xs
+pub balance : (xs : List ℕ) (n : ℕ) → Rest n xs → Balanced (suc n) xs
 balance [] n r = balanced_end (suc n)
 balance (x ∷ xs) n r =
     elim (letter_cases x (All-head (λ y. IsTrue (is_letter y)) x xs r.letters)) [

@@ -7,6 +7,7 @@ pub mod Own
 pub mod Pairing
 pub mod Reading
 pub mod Stack
+pub mod Subtree
 pub mod Tally
 pub mod Unique
 pub mod Walk

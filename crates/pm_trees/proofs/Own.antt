@@ -13,16 +13,16 @@ pub record IsOther (x : ℕ) : Type 0 where
 suc_is_some : (d : ℕ) → (suc d == 0) ≡ false
 suc_is_some d = ne_eqb (suc d) 0 (λ h. omega arith)
 
-other_here : (x : ℕ) (xs : List ℕ) → IsOther x → own_letters 0 (x ∷ xs) ≡ x ∷ own_letters 0 xs
+pub other_here : (x : ℕ) (xs : List ℕ) → IsOther x → own_letters 0 (x ∷ xs) ≡ x ∷ own_letters 0 xs
 other_here x xs h = rw (ne_eqb x OPEN h.not_open, ne_eqb x CLOSE h.not_close) refl
 
-other_above : (d x : ℕ) (xs : List ℕ) → IsOther x → own_letters (suc d) (x ∷ xs) ≡ own_letters (suc d) xs
+pub other_above : (d x : ℕ) (xs : List ℕ) → IsOther x → own_letters (suc d) (x ∷ xs) ≡ own_letters (suc d) xs
 other_above d x xs h = rw (ne_eqb x OPEN h.not_open, ne_eqb x CLOSE h.not_close, suc_is_some d) refl
 
-open_above : (d : ℕ) (xs : List ℕ) → own_letters (suc d) (OPEN ∷ xs) ≡ own_letters (suc (suc d)) xs
+pub open_above : (d : ℕ) (xs : List ℕ) → own_letters (suc d) (OPEN ∷ xs) ≡ own_letters (suc (suc d)) xs
 open_above d xs = rw (suc_is_some d) refl
 
-close_above : (d : ℕ) (xs : List ℕ) → own_letters (suc d) (CLOSE ∷ xs) ≡ own_letters d xs
+pub close_above : (d : ℕ) (xs : List ℕ) → own_letters (suc d) (CLOSE ∷ xs) ≡ own_letters d xs
 close_above d xs = let e : suc d - 1 ≡ d = omega arith in rw (suc_is_some d, e) refl
 
 unfoldable pub own_length : ℕ → List ℕ → ℕ

@@ -1,9 +1,9 @@
 -- The list of the other brackets as it grows.
-use Rattle.std.proofs.Common.{◌≡◌, ◌≢◌, ℕ, zero, suc, ◌+◌, ◌≤◌, ◌<◌, ◌⊎◌, inl, inr, List, [], ◌∷◌, ◌++◌, length, reverse, slice_index, get_or, set, Option, Some, None, option_to_list, refl, ap, ◌∙◌, sym, subst, arith}
-use Rattle.std.proofs.lemmas.Bool.{cases_lt, cases_eq}
-use Rattle.std.proofs.lemmas.List.{nil_from_length, length-reverse, length-set, length_push, get_or_append_left, get_or_push, get_or-set_same, get_or-set_other}
-use Rattle.pm_trees.specs.declared.letters.TheConstants.{LEAF, BUD, OPEN, CLOSE}
-use Rattle.pm_trees.specs.Word.{contour, IsMatched, IsBracketPair, IsBracketing}
+use Rattle.std.proofs.Common.{◌≡◌, ℕ, suc, ◌<◌, inl, inr, List, [], ◌∷◌, ◌++◌, length, reverse, slice_index, get_or, set, Option, Some, option_to_list, refl, ap, ◌∙◌, sym, subst, arith}
+use Rattle.std.proofs.lemmas.Bool.{cases_lt}
+use Rattle.std.proofs.lemmas.List.{nil_from_length, length-set, length_push, get_or_append_left, get_or_push, get_or-set_same, get_or-set_other}
+use Rattle.pm_trees.specs.declared.letters.TheConstants.{OPEN, CLOSE}
+use Rattle.pm_trees.specs.Word.{contour, IsMatched, IsBracketing}
 use Rattle.pm_trees.proofs.Own.{IsOther}
 use Rattle.pm_trees.proofs.Levels.{inside}
 use Rattle.pm_trees.proofs.Reading.{reverse_push}
@@ -86,11 +86,12 @@ pairing_close word other other' xs ys r s i j x o e f g h k p =
 pub opener_is_there : (word other xs : List ℕ) (i : ℕ) → IsMatched word → slice_index word i ≡ CLOSE → IsPairing word other xs i → 0 < length xs
 opener_is_there word other xs i m o p =
     elim (cases_lt 0 (length xs)) [
-      inl l ↦ l
-    | inr g ↦
-        let e : xs ≡ [] = nil_from_length xs (omega arith) in
-        let P : List ℕ → Type 0 = λ zs. IsRead (contour word) (λ k. get_or other k 0) (reverse zs) (suc i) in
-        absurd (close_has_opener word i m o (subst P e p.read).chain) ]
+      | inl l ↦ l
+      | inr g ↦
+          let e : xs ≡ [] = nil_from_length xs (omega arith) in
+          let P : List ℕ → Type 0 = λ zs. IsRead (contour word) (λ k. get_or other k 0) (reverse zs) (suc i) in
+          absurd (close_has_opener word i m o (subst P e p.read).chain)
+    ]
 
 pub pairing_end : (word other xs : List ℕ) (i : ℕ) → i ≡ length word → IsMatched word → IsPairing word other xs i → IsBracketing (contour word) other
 pairing_end word other xs i e m p =

@@ -1,10 +1,10 @@
 -- There is one answer to a word.
-use Rattle.std.proofs.Common.{◌≡◌, ℕ, suc, ◌*◌, ◌≤◌, ◌<◌, List, length, Result, Ok, Err, refl, ap, sym, ◌∙◌, arith}
+use Rattle.std.proofs.Common.{◌≡◌, ℕ, List, Result, Ok, Err, refl, ap, sym, ◌∙◌, arith}
 use Rattle.pm_trees.specs.declared.tree.Tree.{Tree}
 use Rattle.pm_trees.specs.declared.tree.TreeRefusal.{TreeRefusal}
 use Rattle.pm_trees.specs.declared.tree.TreeRefusal.TheVariants.{Memory, Text, TooMany, Degree, Buds}
 use Rattle.pm_trees.specs.First.{IsFirst}
-use Rattle.pm_trees.specs.Word.{IsInOrder, IsFault, contour}
+use Rattle.pm_trees.specs.Word.{IsFault, contour}
 use Rattle.pm_trees.specs.Node.{BreaksDegree, BreaksBuds}
 use Rattle.pm_trees.specs.Blossoming.{IsBlossoming}
 use Rattle.pm_trees.specs.Reading.{IsAnswer, IsTooLong, HasBadDegree, HasBadBuds, HasOneAnswer}

@@ -1,10 +1,9 @@
 ghost use Rattle.std.specs.Prelude.{◌<◌, ◌^◌, IfOk, length};
 ghost use Rattle.pm_trees.specs.Word.{IsBracketing, IsMatched, contour};
 
-use std::alloc::{AllocError, Global};
-
 use crate::letters::{CLOSE, OPEN};
 use crate::tree::Tree;
+use std::alloc::{AllocError, Global};
 
 /// For each place of the contour, from the plant on, the other bracket of a bracket, and the place itself of a leaf or a
 /// bud.

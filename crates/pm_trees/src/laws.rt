@@ -4,5 +4,4 @@ ghost use Rattle.pm_trees.specs.Reading.{HasOneAnswer};
 #[tactic(auto, using(crate::proofs::Unique::one_answer))]
 pub fn answer_is_unique()
     ensures { HasOneAnswer }
-{
-}
+{}

@@ -14,3 +14,6 @@ pub use laws::answer_is_unique;
 pub use letters::{BUD, CLOSE, LEAF, OPEN};
 pub use read::read_tree;
 pub use tree::{Tree, TreeRefusal};
+
+#[cfg(test)]
+mod tests;
