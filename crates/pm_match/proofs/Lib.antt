@@ -2,6 +2,7 @@ mod Backwards
 mod Completing
 pub mod Counts
 pub mod Meeting
+pub mod Paired
 pub mod Partners
 mod Reading
 pub mod Rise

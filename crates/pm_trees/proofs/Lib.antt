@@ -1,5 +1,6 @@
 pub mod Ahead
 pub mod Balance
+pub mod Bracketed
 pub mod Least
 pub mod Levels
 pub mod Nesting
