@@ -65,7 +65,7 @@ pub record IsLaidOut (places : List ℕ) (across : ℕ → ℕ) (t : ℕ → ℕ
   pub are_twins : (p : ℕ) → p < length places → AreTwins places p (t p)
 
 -- the structure with these places across and these twins
-pub laid_out : List ℕ → (ℕ → ℕ) → (ℕ → ℕ) → Structure
+unfoldable pub laid_out : List ℕ → (ℕ → ℕ) → (ℕ → ℕ) → Structure
 laid_out places across t = record { darts = length places; next = λ p. suc (across p) % length places; twin = t; root = 0 }
 
 -- it is the closure

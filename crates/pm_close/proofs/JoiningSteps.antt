@@ -20,27 +20,30 @@ use Rattle.pm_close.proofs.TwinLemmas.{HasOnePartner, within, twins_back}
 -- the partners of a contour whose pairs are found are single
 pub one_partner : (places : List ℕ) (found : Pairs) → IsPairing places found → HasOnePartner places
 one_partner places found h = record {
-    close_of = one_closer places;
-    open_of = λ p q r a b. one_opener places p r q a b;
-    leaf_of = pair_unique places;
-    bud_of = λ p q r a b. pair_unique_leaf places p q r a b;
-    third = λ p q r a b c ne ne'. third places found h p q r a b c ne ne';
-  } where
+  close_of = one_closer places;
+  open_of = λ p q r a b. one_opener places p r q a b;
+  leaf_of = pair_unique places;
+  bud_of = λ p q r a b. pair_unique_leaf places p q r a b;
+  third = λ p q r a b c ne ne'. third places found h p q r a b c ne ne';
+} where
   third : (places : List ℕ) (found : Pairs) → IsPairing places found → (p q r : ℕ) → IsFree places p → IsFree places q → IsFree places r → p ≢ q → p ≢ r → q ≡ r
   third places found h p q r a b c ne ne' = elim (h.no_third p a) [
-      inl p_first ↦ elim (h.no_third q b) [
-          inl q_first ↦ absurd (ne (p_first ∙ sym q_first))
-        | inr q_second ↦ elim (h.no_third r c) [ inl r_first ↦ absurd (ne' (p_first ∙ sym r_first)) | inr r_second ↦ q_second ∙ sym r_second ] ]
+    | inl p_first ↦ elim (h.no_third q b) [
+      | inl q_first ↦ absurd (ne (p_first ∙ sym q_first))
+      | inr q_second ↦ elim (h.no_third r c) [ inl r_first ↦ absurd (ne' (p_first ∙ sym r_first)) | inr r_second ↦ q_second ∙ sym r_second ]
+    ]
     | inr p_second ↦ elim (h.no_third q b) [
-          inl q_first ↦ elim (h.no_third r c) [ inl r_first ↦ q_first ∙ sym r_first | inr r_second ↦ absurd (ne' (p_second ∙ sym r_second)) ]
-        | inr q_second ↦ absurd (ne (p_second ∙ sym q_second)) ] ]
+      | inl q_first ↦ elim (h.no_third r c) [ inl r_first ↦ q_first ∙ sym r_first | inr r_second ↦ absurd (ne' (p_second ∙ sym r_second)) ]
+      | inr q_second ↦ absurd (ne (p_second ∙ sym q_second))
+    ]
+  ]
 
 -- before the first pair
 pub joined_start : (places other : List ℕ) (pairs : List (ℕ × ℕ)) → length other ≡ length places → IsJoined places other pairs 0 other
 joined_start places other pairs e = record {
-    as_long = e;
-    each = λ p l. inr ((λ j q r lt _. absurd (none j lt)), refl);
-  } where
+  as_long = e;
+  each = λ p l. inr ((λ j q r lt _. absurd (none j lt)), refl);
+} where
   none : (j : ℕ) → j < 0 → ⊥
   none j l = omega arith
 
@@ -85,25 +88,33 @@ joined_more places other twins found k bud leaf pairing here joined =
     record {
       as_long = length-set (set twins bud leaf) leaf bud ∙ length-set twins bud leaf ∙ joined.as_long;
       each = λ p l. elim (cases_eq p bud) [
-          inl at_bud ↦ inl (subst (λ (q : ℕ). AreTwins places q (slice_index (set (set twins bud leaf) leaf bud) q)) (sym at_bud)
+        | inl at_bud ↦ inl (subst (λ (q : ℕ). AreTwins places q (slice_index (set (set twins bud leaf) leaf bud) q)) (sym at_bud)
             (subst (λ (x : ℕ). AreTwins places bud x) (sym (written_twice twins bud leaf leaf bud bud_in leaf_in apart)) (pair_bud pair)))
         | inr not_bud ↦ elim (cases_eq p leaf) [
-            inl at_leaf ↦ inl (subst (λ (q : ℕ). AreTwins places q (slice_index (set (set twins bud leaf) leaf bud) q)) (sym at_leaf)
+          | inl at_leaf ↦ inl (subst (λ (q : ℕ). AreTwins places q (slice_index (set (set twins bud leaf) leaf bud) q)) (sym at_leaf)
               (subst (λ (x : ℕ). AreTwins places leaf x) (sym (written_last twins bud leaf leaf bud leaf_in)) (pair_leaf pair)))
-          | inr not_leaf ↦ kept places other twins found k bud leaf here p not_bud not_leaf (joined.each p l) ] ];
+          | inr not_leaf ↦ kept places other twins found k bud leaf here p not_bud not_leaf (joined.each p l)
+        ]
+      ];
     } where
-  differ : (places : List ℕ) (bud leaf : ℕ) → IsPair places bud leaf → bud ≢ leaf
-  differ places bud leaf pair e = let same : slice_index places bud ≡ slice_index places leaf = ap (slice_index places) e in absurd (omega (arith, same, pair.bud, pair.leaf))
-  kept : (places other twins : List ℕ) (found : Pairs) (k bud leaf : ℕ) → slice_get found.pairs k ≡ Some (bud, leaf) → (p : ℕ) → p ≢ bud → p ≢ leaf
-      → AreTwins places p (slice_index twins p) ⊎ (IsApart found.pairs k p × (slice_index twins p ≡ slice_index other p))
-      → AreTwins places p (slice_index (set (set twins bud leaf) leaf bud) p)
-        ⊎ (IsApart found.pairs (k + 1) p × (slice_index (set (set twins bud leaf) leaf bud) p ≡ slice_index other p))
-  kept places other twins found k bud leaf here p not_bud not_leaf before =
-    let same = written_elsewhere twins bud leaf leaf bud p not_bud not_leaf in elim before [
-      inl twins_are ↦ inl (subst (λ (x : ℕ). AreTwins places p x) (sym same) twins_are)
-    | inr rest ↦ inr ((λ j q r l e. elim (cases_lt j k) [
-          inl below ↦ rest.0 j q r below e
-        | inr above ↦ last found k bud leaf here p not_bud not_leaf j q r (omega arith) e ]), same ∙ rest.1) ]
+      differ : (places : List ℕ) (bud leaf : ℕ) → IsPair places bud leaf → bud ≢ leaf
+      differ places bud leaf pair e = let same : slice_index places bud ≡ slice_index places leaf = ap (slice_index places) e in absurd (omega (arith, same, pair.bud, pair.leaf))
+
+      kept : (places other twins : List ℕ) (found : Pairs) (k bud leaf : ℕ) → slice_get found.pairs k ≡ Some (bud, leaf) → (p : ℕ) → p ≢ bud → p ≢ leaf
+          → AreTwins places p (slice_index twins p) ⊎ (IsApart found.pairs k p × (slice_index twins p ≡ slice_index other p))
+          → AreTwins places p (slice_index (set (set twins bud leaf) leaf bud) p)
+          ⊎ (IsApart found.pairs (k + 1) p × (slice_index (set (set twins bud leaf) leaf bud) p ≡ slice_index other p))
+      kept places other twins found k bud leaf here p not_bud not_leaf before =
+          let same = written_elsewhere twins bud leaf leaf bud p not_bud not_leaf in elim before [
+            | inl twins_are ↦ inl (subst (λ (x : ℕ). AreTwins places p x) (sym same) twins_are)
+            | inr rest ↦ inr (
+              (λ j q r l e. elim (cases_lt j k) [
+                | inl below ↦ rest.0 j q r below e
+                | inr above ↦ last found k bud leaf here p not_bud not_leaf j q r (omega arith) e
+              ]),
+              same ∙ rest.1,
+            )
+          ]
 
 -- an entry of a list of pairs
 pub entry_is : (xs ys : List (ℕ × ℕ)) (k : ℕ) → xs ≡ ys → k < length xs → slice_get ys k ≡ Some ((get_or xs k (0, 0)).0, (get_or xs k (0, 0)).1)
@@ -137,18 +148,20 @@ module _ (word other : List ℕ) (found : Pairs) (letters : All (λ x. IsTrue (i
       let listed = pairing.whole q r pair in
       let parts = apart listed.0 q r (omega (arith, below listed.0 q r listed.1, all)) listed.1 in
       elim at [ inl bud ↦ parts.0 bud | inr leaf ↦ parts.1 leaf ] where
-    below : (j q r : ℕ) → slice_get found.pairs j ≡ Some (q, r) → j < length found.pairs
-    below j q r e = some_below found.pairs j q r e
+        below : (j q r : ℕ) → slice_get found.pairs j ≡ Some (q, r) → j < length found.pairs
+        below j q r e = some_below found.pairs j q r e
 
   bracket_left : (k p : ℕ) → k ≡ length found.pairs → p < length (contour word) → p ≢ found.first_free → p ≢ found.second_free → IsApart found.pairs k p
       → AreTwins (contour word) p (slice_index other p)
   bracket_left k p all l not_first not_second apart = elim (letter_cases (slice_index (contour word) p) (letters_at word p letters l)) [
-      a_leaf e ↦ elim (leaf_cases (contour word) found p pairing e) [
-          inl pair ↦ absurd (paired_not k p pair.0 p all apart pair.1 (inr refl))
-        | inr free ↦ elim free [ inl f ↦ absurd (not_first f) | inr s ↦ absurd (not_second s) ] ]
+    | a_leaf e ↦ elim (leaf_cases (contour word) found p pairing e) [
+      | inl pair ↦ absurd (paired_not k p pair.0 p all apart pair.1 (inr refl))
+      | inr free ↦ elim free [ inl f ↦ absurd (not_first f) | inr s ↦ absurd (not_second s) ]
+    ]
     | a_bud e ↦ let pair = pairing.each_bud p e in absurd (paired_not k p p pair.0 all apart pair.1 (inl refl))
     | an_open e ↦ edge_down (bracketing.of_open p e)
-    | a_close e ↦ edge_up (bracketing.of_close p e) ]
+    | a_close e ↦ edge_up (bracketing.of_close p e)
+  ]
 
   -- all pairs, and then the two free leaves
   pub joined_all : (twins : List ℕ) (k first second : ℕ) → k ≡ length found.pairs → first ≡ found.first_free → second ≡ found.second_free
@@ -163,18 +176,22 @@ module _ (word other : List ℕ) (found : Pairs) (letters : All (λ x. IsTrue (i
       record {
         as_long = length-set (set twins first second) second first ∙ length-set twins first second ∙ joined.as_long;
         each = λ p l. elim (cases_eq p first) [
-            inl at_first ↦ subst (λ (q : ℕ). AreTwins (contour word) q (slice_index (set (set twins first second) second first) q)) (sym at_first)
+          | inl at_first ↦ subst (λ (q : ℕ). AreTwins (contour word) q (slice_index (set (set twins first second) second first) q)) (sym at_first)
               (subst (λ (x : ℕ). AreTwins (contour word) first x) (sym (written_twice twins first second second first first_in second_in apart)) (free_leaves first_free second_free apart))
           | inr not_first ↦ elim (cases_eq p second) [
-              inl at_second ↦ subst (λ (q : ℕ). AreTwins (contour word) q (slice_index (set (set twins first second) second first) q)) (sym at_second)
+            | inl at_second ↦ subst (λ (q : ℕ). AreTwins (contour word) q (slice_index (set (set twins first second) second first) q)) (sym at_second)
                 (subst (λ (x : ℕ). AreTwins (contour word) second x) (sym (written_last twins first second second first second_in)) (free_leaves second_free first_free (λ e. apart (sym e))))
             | inr not_second ↦ subst (λ (x : ℕ). AreTwins (contour word) p x) (sym (written_elsewhere twins first second second first p not_first not_second))
-                (elsewhere twins k p all l (λ e. not_first (e ∙ sym is_first)) (λ e. not_second (e ∙ sym is_second)) (joined.each p l)) ] ];
+                (elsewhere twins k p all l (λ e. not_first (e ∙ sym is_first)) (λ e. not_second (e ∙ sym is_second)) (joined.each p l))
+          ]
+        ];
       } where
-    differ : (a b : ℕ) → a < b → a ≡ b → ⊥
-    differ a b l e = omega arith
-    elsewhere : (twins : List ℕ) (k p : ℕ) → k ≡ length found.pairs → p < length (contour word) → p ≢ found.first_free → p ≢ found.second_free
-        → AreTwins (contour word) p (slice_index twins p) ⊎ (IsApart found.pairs k p × (slice_index twins p ≡ slice_index other p)) → AreTwins (contour word) p (slice_index twins p)
-    elsewhere twins k p all l not_first not_second so_far = elim so_far [
-        inl twins_are ↦ twins_are
-      | inr rest ↦ subst (λ (x : ℕ). AreTwins (contour word) p x) (sym rest.1) (bracket_left k p all l not_first not_second rest.0) ]
+        differ : (a b : ℕ) → a < b → a ≡ b → ⊥
+        differ a b l e = omega arith
+
+        elsewhere : (twins : List ℕ) (k p : ℕ) → k ≡ length found.pairs → p < length (contour word) → p ≢ found.first_free → p ≢ found.second_free
+            → AreTwins (contour word) p (slice_index twins p) ⊎ (IsApart found.pairs k p × (slice_index twins p ≡ slice_index other p)) → AreTwins (contour word) p (slice_index twins p)
+        elsewhere twins k p all l not_first not_second so_far = elim so_far [
+          | inl twins_are ↦ twins_are
+          | inr rest ↦ subst (λ (x : ℕ). AreTwins (contour word) p x) (sym rest.1) (bracket_left k p all l not_first not_second rest.0)
+        ]

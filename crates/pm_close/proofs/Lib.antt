@@ -1,3 +1,4 @@
+pub mod ClosedMap
 pub mod ClosureLemmas
 pub mod DartLemmas
 pub mod JoiningSteps

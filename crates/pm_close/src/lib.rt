@@ -1,5 +1,8 @@
-//! The closing of blossoming trees.
+//! The closing of blossoming trees into rooted maps.
 #![tactic(auto)]
 
+mod closing;
 mod joining;
 mod numbering;
+
+pub use closing::{CloseRefusal, Closed, close_tree};

@@ -6,7 +6,7 @@ ghost use Rattle.pm_close.specs.Twinning.{IsTwinning};
 use std::alloc::{AllocError, Global};
 
 // The dart of each place: the first place of the k-th edge, in the order of first places, is dart 2k, and its twin 2k+1.
-fn darts_of(alloc: Global, twins: &[u32]) -> Result<Vec<u32>, AllocError>
+pub(crate) fn darts_of(alloc: Global, twins: &[u32]) -> Result<Vec<u32>, AllocError>
     requires small { length twins.now < 2 ^ 31 }
     requires twinning { IsTwinning (length twins.now) (slice_index twins.now) }
     ensures length { IfOk result (λ darts. length darts.items ≡ length twins.now) }
@@ -29,7 +29,11 @@ fn darts_of(alloc: Global, twins: &[u32]) -> Result<Vec<u32>, AllocError>
 }
 
 // The rotation of the darts: after the dart of a place comes the dart of the place behind the one across.
-fn rotation_of(alloc: Global, darts: &[u32], across: &[u32]) -> Result<Vec<u32>, AllocError>
+pub(crate) fn rotation_of(
+    alloc: Global,
+    darts: &[u32],
+    across: &[u32],
+) -> Result<Vec<u32>, AllocError>
     requires same_length { length across.now ≡ length darts.now }
     requires permutation { IsPermutationList darts.now }
     requires within { (p : ℕ) → p < length across.now → slice_index across.now p < length across.now }

@@ -29,5 +29,5 @@ pub returns : goal.returns
 returns c =
     let all : c.loop-pair.pair-index ≡ length c.args.pairing.now.pairs = omega (arith, ap length c.pairs-pair-items.ensures, c.loop-pair-test.false, c.loop-pair.auto.pair-index-end) in
     joined_all c.args.tree.now c.args.across.now c.args.pairing.now c.letters-letters.ensures.valid.in_order.letters c.requires.bracketing c.requires.pairing
-      c.loop-pair.twins.items c.loop-pair.pair-index c.free-first.result.0 c.free-first.result.1 all
-      (ap (λ (p : ℕ × ℕ). p.0) c.free-first.ensures) (ap (λ (p : ℕ × ℕ). p.1) c.free-first.ensures) c.loop-pair.invariant
+    c.loop-pair.twins.items c.loop-pair.pair-index c.free-first.result.0 c.free-first.result.1 all
+    (ap (λ (p : ℕ × ℕ). p.0) c.free-first.ensures) (ap (λ (p : ℕ × ℕ). p.1) c.free-first.ensures) c.loop-pair.invariant

@@ -1,0 +1,133 @@
+-- The map that closing makes is the closure, and a rooted map.
+use Rattle.std.proofs.Common.{◌≡◌, ◌≢◌, ℕ, suc, ◌+◌, ◌*◌, ◌%◌, ◌<◌, ◌≤◌, List, length, refl, sym, ◌∙◌, ap, subst, arith}
+use Rattle.std.specs.Prelude.{slice_index}
+use Rattle.pm_limits.specs.declared.TheConstants.{MAX_EDGES}
+use Rattle.pm_perm.specs.Permutation.{IsPermutationBelow, IsPermutationList}
+use Rattle.pm_trees.specs.Word.{IsBracketing}
+use Rattle.pm_trees.proofs.Nesting.{other_below}
+use Rattle.pm_match.specs.Pairing.{Pairs, IsPairing}
+use Rattle.pm_map.specs.Structure.{Structure, IsStructure, IsConnected, CarriesTo}
+use Rattle.pm_map.specs.Rotation.{RotationSystem, structure_of, IsRootedMap}
+use Rattle.pm_map.proofs.CarriedStructure.{structure_carried, connected_carried}
+use Rattle.pm_close.specs.Closure.{IsClosure, IsClosed, dart_of}
+use Rattle.pm_close.specs.Twinning.{IsTwinning, IsTwinList}
+use Rattle.pm_close.proofs.TwinLemmas.{HasOnePartner, twins_apart}
+use Rattle.pm_close.proofs.ClosureLemmas.{IsLaidOut, laid_out, laid_out_closes, laid_out_twins, laid_out_structure, laid_out_connected, bracketing_across}
+use Rattle.pm_close.proofs.DartLemmas.{firsts, firsts_half, dart_of_permutes, dart_of-twin, dart_of-root}
+use Rattle.pm_close.proofs.JoiningSteps.{one_partner}
+
+-- the lists that closing has made, and how they hang together
+pub record IsMade (places across twins darts sigma : List ℕ) (found : Pairs) : Type 0 where
+  pub bracketing : IsBracketing places across
+  pub pairing : IsPairing places found
+  pub are_twins : IsTwinList places twins
+  pub as_many_darts : length darts ≡ length twins
+  pub darts_are : (p : ℕ) → p < length twins → slice_index darts p ≡ dart_of (slice_index twins) p
+  pub as_long : length sigma ≡ length darts
+  pub rotated : (p : ℕ) → p < length darts → slice_index sigma (slice_index darts p) ≡ slice_index darts (suc (slice_index across p) % length darts)
+
+-- the places are laid out as the lists say
+pub lists_lay_out : (places across twins : List ℕ) (found : Pairs) → IsBracketing places across → IsPairing places found → IsTwinList places twins
+    → IsLaidOut places (slice_index across) (slice_index twins)
+lists_lay_out places across twins found bracketing pairing twins_are = record {
+  one = one_partner places found pairing;
+  is_across = bracketing_across places across bracketing;
+  are_twins = twins_are.each;
+}
+
+-- the list of twins has the places in twos
+pub twin_list_twins : (places across twins : List ℕ) (found : Pairs) → IsBracketing places across → IsPairing places found → IsTwinList places twins
+    → IsTwinning (length twins) (slice_index twins)
+twin_list_twins places across twins found bracketing pairing twins_are =
+    subst (λ (n : ℕ). IsTwinning n (slice_index twins)) (sym twins_are.as_long)
+    (laid_out_twins places (slice_index across) (slice_index twins) (lists_lay_out places across twins found bracketing pairing twins_are))
+
+-- the list of darts is a permutation
+pub darts_permute : (twins darts : List ℕ) → IsTwinning (length twins) (slice_index twins) → length darts ≡ length twins
+    → ((p : ℕ) → p < length twins → slice_index darts p ≡ dart_of (slice_index twins) p) → IsPermutationList darts
+darts_permute twins darts tw e each =
+    let perm = dart_of_permutes (length twins) (slice_index twins) tw in
+    record {
+      stays = λ k l. omega (arith, each k (omega arith), perm.stays k (omega arith), e);
+      injective = λ j k l m same. perm.injective j k (omega arith) (omega arith) (sym (each j (omega arith)) ∙ same ∙ each k (omega arith));
+    }
+
+-- the places across are places
+pub across_below : (places across darts : List ℕ) → IsBracketing places across → (p : ℕ) → p < length across → slice_index across p < length across
+across_below places across darts b p l = omega (arith, other_below places across p b (omega (arith, b.as_long)), b.as_long)
+
+-- the lists as they were lent to the steps
+pub is_made : (places across lent_across twins lent_twins darts lent_darts sigma : List ℕ) (found : Pairs) → lent_across ≡ across → lent_twins ≡ twins → lent_darts ≡ darts
+    → IsBracketing places across → IsPairing places found → IsTwinList places twins → length darts ≡ length lent_twins
+    → ((p : ℕ) → p < length lent_twins → slice_index darts p ≡ dart_of (slice_index lent_twins) p) → length sigma ≡ length lent_darts
+    → ((p : ℕ) → p < length lent_darts → slice_index sigma (slice_index lent_darts p) ≡ slice_index lent_darts (suc (slice_index lent_across p) % length lent_darts))
+    → IsMade places lent_across lent_twins lent_darts sigma found
+is_made places across lent_across twins lent_twins darts lent_darts sigma found e f g bracketing pairing twins_are many each long rotated = record {
+  bracketing = subst (λ (xs : List ℕ). IsBracketing places xs) (sym e) bracketing;
+  pairing = pairing;
+  are_twins = subst (λ (xs : List ℕ). IsTwinList places xs) (sym f) twins_are;
+  as_many_darts = ap length g ∙ many;
+  darts_are = λ p l. ap (λ (xs : List ℕ). slice_index xs p) g ∙ each p l;
+  as_long = long;
+  rotated = rotated;
+}
+
+module _ (places across twins darts sigma : List ℕ) (found : Pairs) (made : IsMade places across twins darts sigma found) where
+  layout : IsLaidOut places (slice_index across) (slice_index twins)
+  layout = lists_lay_out places across twins found made.bracketing made.pairing made.are_twins
+
+  twinning : IsTwinning (length places) (slice_index twins)
+  twinning = laid_out_twins places (slice_index across) (slice_index twins) layout
+
+  all_places : length sigma ≡ length places
+  all_places = made.as_long ∙ made.as_many_darts ∙ made.are_twins.as_long
+
+  dart_is : (p : ℕ) → p < length places → slice_index darts p ≡ dart_of (slice_index twins) p
+  dart_is p l = made.darts_are p (omega (arith, made.are_twins.as_long))
+
+  -- the closure on places is carried to the map
+  map_is_carried : 0 < length places → CarriesTo (dart_of (slice_index twins)) (laid_out places (slice_index across) (slice_index twins)) (structure_of (record { sigma = sigma; root = 0 }))
+  unfolding laid_out
+  map_is_carried some = record {
+    darts = sym all_places;
+    renumbers = dart_of_permutes (length places) (slice_index twins) twinning;
+    next = next;
+    twin = λ p l. dart_of-twin (length places) (slice_index twins) twinning p l;
+    root = λ l. dart_of-root (slice_index twins) (λ e. twins_apart places 0 (slice_index twins 0) (made.are_twins.each 0 some) (sym e));
+  } where
+    next : (p : ℕ) → p < length places → dart_of (slice_index twins) (suc (slice_index across p) % length places) ≡ slice_index sigma (dart_of (slice_index twins) p)
+    next p l =
+        let count : length darts ≡ length places = made.as_many_darts ∙ made.are_twins.as_long in
+        let some : 0 < length places = omega arith in
+        let after : suc (slice_index across p) % length places < length places = omega arith in
+        let step = made.rotated p (omega (arith, count)) in
+        let here : slice_index sigma (slice_index darts p) ≡ slice_index sigma (dart_of (slice_index twins) p) = ap (slice_index sigma) (dart_is p l) in
+        sym (dart_is (suc (slice_index across p) % length places) after)
+        ∙ ap (λ (n : ℕ). slice_index darts (suc (slice_index across p) % n)) (sym count) ∙ sym step ∙ here
+
+  -- the map is the closure
+  pub made_is_closed : 0 < length places → IsClosed places (record { sigma = sigma; root = 0 })
+  unfolding laid_out
+  made_is_closed some = record {
+    closure = laid_out places (slice_index across) (slice_index twins);
+    is_closure = laid_out_closes places (slice_index across) (slice_index twins) layout;
+    carries = carried;
+  } where
+    carried : CarriesTo (dart_of (slice_index twins)) (laid_out places (slice_index across) (slice_index twins)) (structure_of (record { sigma = sigma; root = 0 }))
+    carried = map_is_carried some
+
+  -- the map is a rooted map
+  pub made_is_rooted : 0 < length places → length places ≤ 2 * MAX_EDGES → IsRootedMap (record { sigma = sigma; root = 0 })
+  unfolding laid_out
+  made_is_rooted some few =
+      let structure = laid_out_structure places (slice_index across) (slice_index twins) some layout in
+      record {
+        even = half;
+        few = omega (arith, all_places);
+        structure = structure_carried (dart_of (slice_index twins)) (laid_out places (slice_index across) (slice_index twins))
+            (structure_of (record { sigma = sigma; root = 0 })) structure (map_is_carried some) (λ _. refl);
+        connected = connected_carried (dart_of (slice_index twins)) (laid_out places (slice_index across) (slice_index twins))
+            (structure_of (record { sigma = sigma; root = 0 })) (map_is_carried some) (laid_out_connected places (slice_index across) (slice_index twins) layout);
+      } where
+        half : length sigma % 2 ≡ 0
+        half = omega (arith, firsts_half (length places) (slice_index twins) twinning, all_places)

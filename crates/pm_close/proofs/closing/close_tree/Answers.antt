@@ -1,0 +1,37 @@
+use Rattle.std.proofs.Common.{◌≡◌, ℕ, ◌<◌, List, length, sym, ap, ◌∙◌, subst, arith}
+use Rattle.std.specs.Prelude.{slice_index}
+use Rattle.pm_trees.specs.Word.{contour, IsBracketing}
+use Rattle.pm_close.specs.Twinning.{IsTwinList}
+use Rattle.pm_close.proofs.ClosedMap.{is_made, twin_list_twins, darts_permute, across_below, made_is_closed, made_is_rooted}
+use Rattle.pm_close.proofs.closing.close_tree.Goals as goal
+
+pub darts_of-requires-clause-twinning : goal.darts_of-requires-clause-twinning
+darts_of-requires-clause-twinning c =
+    twin_list_twins (contour c.args.tree.now) c.in_ok-across.across.items c.deref-2.result.now c.in_ok-pairing.pairing c.in_ok-across.ensures c.in_ok-pairing.ensures
+    (subst (λ (xs : List ℕ). IsTwinList (contour c.args.tree.now) xs) (sym c.deref-2.ensures.value) c.in_ok-twins.ensures)
+
+pub rotation_of-requires-clause-permutation : goal.rotation_of-requires-clause-permutation
+rotation_of-requires-clause-permutation c =
+    let twinning = twin_list_twins (contour c.args.tree.now) c.in_ok-across.across.items c.deref-2.result.now c.in_ok-pairing.pairing c.in_ok-across.ensures c.in_ok-pairing.ensures
+    (subst (λ (xs : List ℕ). IsTwinList (contour c.args.tree.now) xs) (sym c.deref-2.ensures.value) c.in_ok-twins.ensures) in
+    darts_permute c.deref-2.result.now c.deref-3.result.now twinning (ap length c.deref-3.ensures.value ∙ c.in_ok-darts.ensures.length)
+    (λ p l. ap (λ (xs : List ℕ). slice_index xs p) c.deref-3.ensures.value ∙ c.in_ok-darts.ensures.each p l)
+
+pub rotation_of-requires-clause-within : goal.rotation_of-requires-clause-within
+rotation_of-requires-clause-within c =
+    across_below (contour c.args.tree.now) c.deref-4.result.now c.deref-3.result.now
+    (subst (λ (xs : List ℕ). IsBracketing (contour c.args.tree.now) xs) (sym c.deref-4.ensures.value) c.in_ok-across.ensures)
+
+pub of_rotation-requires : goal.of_rotation-requires
+of_rotation-requires c =
+    let made = is_made (contour c.args.tree.now) c.in_ok-across.across.items c.deref-4.result.now c.in_ok-twins.twins.items c.deref-2.result.now c.in_ok-darts.darts.items
+    c.deref-3.result.now c.in_ok-sigma.sigma.items c.in_ok-pairing.pairing c.deref-4.ensures.value c.deref-2.ensures.value c.deref-3.ensures.value
+    c.in_ok-across.ensures c.in_ok-pairing.ensures c.in_ok-twins.ensures c.in_ok-darts.ensures.length c.in_ok-darts.ensures.each c.in_ok-sigma.ensures.length c.in_ok-sigma.ensures.each in
+    made_is_rooted _ _ _ _ _ _ made (omega arith) (omega (arith, c.letters-letters.ensures.valid.short))
+
+pub returns : goal.returns
+returns c =
+    let made = is_made (contour c.args.tree.now) c.in_ok-across.across.items c.deref-4.result.now c.in_ok-twins.twins.items c.deref-2.result.now c.in_ok-darts.darts.items
+    c.deref-3.result.now c.in_ok-sigma.sigma.items c.in_ok-pairing.pairing c.deref-4.ensures.value c.deref-2.ensures.value c.deref-3.ensures.value
+    c.in_ok-across.ensures c.in_ok-pairing.ensures c.in_ok-twins.ensures c.in_ok-darts.ensures.length c.in_ok-darts.ensures.each c.in_ok-sigma.ensures.length c.in_ok-sigma.ensures.each in
+    (c.in_default.ensures, rw c.of_rotation.ensures (made_is_closed _ _ _ _ _ _ made (omega arith)))
