@@ -1,5 +1,5 @@
 -- The second turn gives the buds that still wait their leaves, and finds the two free leaves.
-use Rattle.std.proofs.Common.{◌≡◌, ◌≢◌, ℕ, suc, ◌+◌, ◌-◌, ◌<◌, ◌≤◌, List, [], ◌∷◌, ◌++◌, length, get_or, take, refl, sym, ap, ◌∙◌, subst, inl, inr, arith, Some}
+use Rattle.std.proofs.Common.{◌≡◌, ◌≢◌, ℕ, suc, ◌+◌, ◌-◌, ◌<◌, ◌≤◌, List, [], ◌∷◌, ◌++◌, length, get_or, take, refl, sym, ap, ◌∙◌, subst, ◌⊎◌, inl, inr, arith, Some}
 use Rattle.std.specs.Prelude.{slice_index, slice_get}
 use Rattle.std.proofs.lemmas.Bool.{cases_lt, cases_eq}
 use Rattle.std.proofs.lemmas.List.{length_push, length-take-le}
@@ -9,9 +9,9 @@ use Rattle.pm_match.specs.Pair.{IsPair}
 use Rattle.pm_match.specs.Waiting.{bud_at, with_leaf, top_of}
 use Rattle.pm_match.specs.Pairing.{Pairs, IsPairing}
 use Rattle.pm_match.proofs.Counts.{letter, buds, leaves, letter-second, bud_within, leaf_within, IsStep, at_bud, at_leaf, at_other, HasSurplus}
-use Rattle.pm_match.proofs.Meeting.{pair_second, pair_unique, turned}
+use Rattle.pm_match.proofs.Meeting.{pair_second, pair_unique, pair_unique_leaf, turned}
 use Rattle.pm_match.proofs.Rise.{IsRise, free_at, pair_at}
-use Rattle.pm_match.proofs.Reading.{leaf_at, IsOpen, open_meets, IsReading, reading_meet, reading_loose, reading_other, reading_inner_bud, reading_inner_leaf, top_within, top_opens}
+use Rattle.pm_match.proofs.Reading.{IsStacked, leaf_at, IsOpen, open_meets, IsReading, reading_meet, reading_loose, reading_other, reading_inner_bud, reading_inner_leaf, top_within, top_opens}
 use Rattle.pm_match.proofs.Turns.{IsListed, IsFirstTurn, listed_with_leaf, IsFreeList, free_none, free_more, free_push}
 
 -- The state before place q of the second turn: so many pairs waited when it began, and so many buds of this turn wait.
@@ -174,6 +174,14 @@ listed_at pairs k p q less e f =
 abbrev pub found : List (ℕ × ℕ) → List ℕ → Pairs
 found pairs free = record { pairs = pairs; first_free = slice_index free 0; second_free = slice_index free 1 }
 
+-- one of two listed places
+free_by_index : (free : List ℕ) (q : ℕ) → length free ≡ 2 → IsStacked free q → (q ≡ slice_index free 0) ⊎ (q ≡ slice_index free 1)
+free_by_index free q two there = elim (cases_eq there.height 0) [
+  | inl e ↦ inl (sym there.is_there ∙ ap (λ k. slice_index free k) e)
+  | inr ne ↦ let less = there.on_stack in let last : there.height ≡ 1 = omega arith in
+      inr (sym there.is_there ∙ ap (λ k. slice_index free k) last)
+]
+
 pub pairing_from : (places : List ℕ) (waited : ℕ) (pairs : List (ℕ × ℕ)) (stack : List ℕ) (inner : ℕ) (free : List ℕ) → HasSurplus places → IsRise places (length places) waited → IsSecondTurn places waited (length places) pairs stack inner free → IsPairing places (found pairs free)
 pairing_from places waited pairs stack inner free s one h =
     let empty = stack_empty places waited pairs stack inner free s h in
@@ -196,10 +204,9 @@ pairing_from places waited pairs stack inner free s one h =
       second = h.loose.sound 1 (omega arith);
       no_third = (λ q is_free. elim (h.loose.whole q (leaf_within places q is_free.leaf) is_free.leaf) [
         | inl pair ↦ absurd (is_free.alone pair.0 pair.1)
-        | inr there ↦ elim (cases_eq there.height 0) [
-          | inl e ↦ inl (sym there.is_there ∙ ap (λ k. slice_index free k) e)
-          | inr ne ↦ let less = there.on_stack in let last : there.height ≡ 1 = omega arith in
-              inr (sym there.is_there ∙ ap (λ k. slice_index free k) last)
-        ]
+        | inr there ↦ free_by_index free q two there
       ]);
+      one_leaf = pair_unique places;
+      one_bud = (λ p q r pair other. pair_unique_leaf places p q r pair other);
+      each_leaf = (λ q e. elim (h.loose.whole q (leaf_within places q e) e) [ inl pair ↦ inl pair | inr there ↦ inr (free_by_index free q two there) ]);
     }

@@ -56,18 +56,3 @@ pub fn plant_bud(tree: &Tree) -> Option<u32>
 {
     find_plant_bud(tree.letters())
 }
-
-#[cfg(test)]
-mod tests {
-    use super::*;
-
-    #[test]
-    fn plants_of_words(rt: HostRuntime) {
-        assert!(rt; is_plant_free(b"b(bll)l"));
-        assert!(rt; is_plant_free(b"lbl"));
-        assert!(rt; !is_plant_free(b"llb"));
-        assert_eq!(rt; find_plant_bud(b"b(bll)l"), None);
-        assert_eq!(rt; find_plant_bud(b"lbl"), None);
-        assert_eq!(rt; find_plant_bud(b"llb"), Some(3));
-    }
-}

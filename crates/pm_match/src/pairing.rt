@@ -134,23 +134,3 @@ pub fn matching(alloc: Global, tree: &Tree) -> Result<Pairing, AllocError>
 {
     match_letters(alloc, tree.letters())
 }
-
-#[cfg(test)]
-mod tests {
-    use super::*;
-    use std::test::Fail;
-
-    #[test]
-    fn pairs_of_words(rt: HostRuntime) -> Result<(), Fail> {
-        let nested = match_letters(rt.alloc(), b"b(bll)l")?;
-        assert_eq!(rt; nested.pairs(), [(1, 5), (3, 4)].as_slice());
-        assert_eq!(rt; nested.free(), (0, 7));
-        let balanced = match_letters(rt.alloc(), b"lbl")?;
-        assert_eq!(rt; balanced.pairs(), [(2, 3)].as_slice());
-        assert_eq!(rt; balanced.free(), (0, 1));
-        let around = match_letters(rt.alloc(), b"llb")?;
-        assert_eq!(rt; around.pairs(), [(3, 0)].as_slice());
-        assert_eq!(rt; around.free(), (1, 2));
-        Ok(())
-    }
-}
