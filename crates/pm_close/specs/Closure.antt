@@ -1,5 +1,6 @@
 -- The closure of a blossoming tree (Schaeffer 1997). Its darts are the places of the contour, the plant at place 0.
-use Rattle.std.specs.Prelude.{◌≡◌, ◌≢◌, ℕ, zero, suc, ◌+◌, ◌*◌, ◌%◌, ◌<◌, nat_lt, List, length, slice_index, if◌then◌else◌}
+use Rattle.std.specs.Prelude.{◌≡◌, ◌≢◌, ℕ, suc, ◌+◌, ◌*◌, ◌%◌, ◌<◌, nat_lt, List, length, slice_index, if◌then◌else◌}
+use Rattle.pm_perm.specs.Count.{count_below}
 use Rattle.pm_trees.specs.declared.letters.TheConstants.{OPEN, CLOSE}
 use Rattle.pm_trees.specs.Word.{IsBracketPair}
 use Rattle.pm_match.specs.Pair.{IsPair, IsFree}
@@ -14,11 +15,11 @@ pub data IsAcross (places : List ℕ) (p q : ℕ) : Type 0 where
 
 -- the two brackets of an edge, the two places of a pair, and the two free leaves
 pub data AreTwins (places : List ℕ) (p q : ℕ) : Type 0 where
-  from_open : IsBracketPair places p q → AreTwins places p q
-  from_close : IsBracketPair places q p → AreTwins places p q
-  from_bud : IsPair places p q → AreTwins places p q
-  from_leaf : IsPair places q p → AreTwins places p q
-  from_free : IsFree places p → IsFree places q → p ≢ q → AreTwins places p q
+  edge_down : IsBracketPair places p q → AreTwins places p q
+  edge_up : IsBracketPair places q p → AreTwins places p q
+  pair_bud : IsPair places p q → AreTwins places p q
+  pair_leaf : IsPair places q p → AreTwins places p q
+  free_leaves : IsFree places p → IsFree places q → p ≢ q → AreTwins places p q
 
 -- The closure on places. Around a node the rotation runs from the `)` of its edge to its parent (from the plant, for the
 -- root node) through its entries in order, a child standing as its `(`, and back: from each place to the one after the
@@ -31,8 +32,7 @@ pub record IsClosure (places : List ℕ) (closure : Structure) : Type 0 where
 
 -- how many edges have their first place before this place
 abbrev pub edges_before : (ℕ → ℕ) → ℕ → ℕ
-edges_before twin zero = 0
-edges_before twin (suc p) = if nat_lt p (twin p) then suc (edges_before twin p) else edges_before twin p
+edges_before twin place = count_below (λ p. nat_lt p (twin p)) place
 
 -- the dart of a place, where the first place of the k-th edge, in the order of first places, is dart 2k
 abbrev pub dart_of : (ℕ → ℕ) → ℕ → ℕ

@@ -1,2 +1,5 @@
 //! The closing of blossoming trees.
 #![tactic(auto)]
+
+mod joining;
+mod numbering;

@@ -1,4 +1,4 @@
-//! The limits of the library. Each stands here once, and no other number repeats it.
+//! The limits of maps and trees. Each stands here once, and no other number repeats it.
 #![tactic(auto)]
 
 /// The greatest number of edges of a map or a tree.
@@ -6,6 +6,3 @@ pub const MAX_EDGES: u32 = 4_194_304;
 
 /// The greatest degree of a node of a blossoming tree, and of a vertex of a map that opens.
 pub const MAX_DEGREE: u32 = 64;
-
-/// The greatest number of bytes that a command reads.
-pub const MAX_BYTES: usize = 268_435_456;

@@ -1,7 +1,7 @@
 -- What a structure is carried to is a structure, and connected where the first is.
 use Rattle.std.proofs.Common.{◌≡◌, ℕ, ◌<◌, IsTrue, sym, ap, ◌∙◌, subst, arith}
 use Rattle.pm_map.specs.Structure.{Structure, IsStructure, IsClosedSet, IsConnected, CarriesTo}
-use Rattle.pm_map.proofs.Reached.{place_of, place_of-stays, value-place_of}
+use Rattle.pm_perm.proofs.Inverse.{place_of, place_of-stays, value-place_of}
 
 -- a dart of the second structure comes from one of the first, and so do its next and its twin
 record ComesFrom (f : ℕ → ℕ) (a b : Structure) (e : ℕ) : Type 0 where

@@ -1,7 +1,6 @@
 pub mod CanonicalNames
 pub mod CarriedMeeting
 pub mod CarriedStructure
-pub mod Reached
 pub mod SameMaps
 pub mod StandsLemmas
 pub mod UniqueCanonical

@@ -1,5 +1,5 @@
 -- Canonical numbering: edges are numbered in the order in which the meeting list mentions them first.
-use Rattle.std.specs.Prelude.{◌≡◌, ℕ, ◌*◌, ◌<◌, Bool, ◌==◌, List, [], ◌∷◌, length, slice_index, if◌then◌else◌}
+use Rattle.std.specs.Prelude.{◌≡◌, ℕ, ◌*◌, ◌<◌, ◌==◌, List, [], ◌∷◌, length, slice_index, if◌then◌else◌}
 use Rattle.std.specs.List.{list_any}
 use Rattle.pm_map.specs.Rotation.{RotationSystem, structure_of, twin}
 use Rattle.pm_map.specs.Structure.{Same}

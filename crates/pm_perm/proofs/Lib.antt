@@ -1,1 +1,4 @@
+pub mod Counts
+pub mod Inverse
+pub mod Permutations
 pub mod Pigeonhole

@@ -1,8 +1,8 @@
 -- Blossoming trees (Schaeffer 1997): plane trees with buds and leaves, planted at a leaf, in which each node of degree 2i
 -- has i-1 buds.
-use Rattle.std.specs.Prelude.{◌≡◌, ℕ, suc, ◌+◌, ◌*◌, ◌/◌, ◌<◌, List, length}
+use Rattle.std.specs.Prelude.{ℕ, suc, ◌*◌, ◌/◌, ◌<◌, List, length}
 use Rattle.pm_limits.specs.declared.TheConstants.{MAX_EDGES}
-use Rattle.pm_trees.specs.declared.letters.TheConstants.{LEAF, BUD, OPEN}
+use Rattle.pm_trees.specs.declared.letters.TheConstants.{LEAF, OPEN}
 use Rattle.pm_trees.specs.Node.{IsNode, IsDegree, IsBudded, degree}
 use Rattle.pm_trees.specs.Word.{IsInOrder, contour, count}
 

@@ -36,3 +36,9 @@ IsAnswer word (Err (TooMany letters)) = IsTooLong word letters
 IsAnswer word (Err (Degree place)) = HasBadDegree word place
 IsAnswer word (Err (Buds place)) = HasBadBuds word place
 IsAnswer word (Err Memory) = ⊤
+
+-- A word has one answer, but for want of memory: so each refusal comes exactly where its rule is the first that fails.
+abbrev pub HasOneAnswer : Type 0
+HasOneAnswer =
+    (word : List ℕ) (first second : Result Tree TreeRefusal) → IsAnswer word first → IsAnswer word second
+    → (first ≡ Err Memory → ⊥) → (second ≡ Err Memory → ⊥) → first ≡ second

@@ -1,5 +1,7 @@
 ghost use Rattle.std.specs.Prelude.{◌≡◌, ℕ};
 
+use crate::letters::{LEAF, OPEN};
+use std::alloc::AllocError;
 use std::marker::Model;
 
 /// Why a word isn't the word of a blossoming tree, in the order in which the rules are tried. A place counts from 1 along
@@ -18,10 +20,20 @@ pub enum TreeRefusal {
     Buds { place: u32 },
 }
 
+impl From<AllocError> for TreeRefusal {
+    ghost use Rattle.pm_trees.specs.declared.tree.TreeRefusal.TheVariants.{Memory};
+
+    ghost from_gives = { λ _ refusal. refusal ≡ Memory };
+
+    fn from(_error: AllocError) -> TreeRefusal {
+        TreeRefusal::Memory
+    }
+}
+
 /// A blossoming tree (Schaeffer 1997), seen as the letters of its word.
 #[derive(Drop)]
 pub struct Tree {
-    letters: Vec<u8>,
+    pub(crate) letters: Vec<u8>,
 }
 
 impl Model for Tree {
@@ -36,13 +48,51 @@ impl Model for Tree {
 }
 
 impl Tree {
-    ghost use Rattle.pm_trees.specs.Blossoming.{IsBlossoming};
+    ghost use Rattle.std.specs.Prelude.{◌+◌};
+    ghost use Rattle.pm_trees.specs.Word.{contour, count};
+    ghost use Rattle.pm_trees.specs.Blossoming.{IsBlossoming, edges, nodes, leaves};
+    ghost use Rattle.pm_trees.specs.declared.letters.TheConstants.{BUD};
 
-    /// The letters of the word, in order; the k-th, from 1, stands at place k.
+    /// The letters of the word, in order; the k-th, from 1, stands at place k. With the plant there are two more leaves
+    /// than buds.
+    #[tactic(auto, using(crate::proofs::Balance::two_more_leaves))]
     pub fn letters(&self) -> &[u8]
         ensures letters { result.now ≡ self.now }
         ensures valid { IsBlossoming self.now }
+        ensures balanced { count LEAF (contour self.now) ≡ count BUD (contour self.now) + 2 }
     {
         &self.letters
     }
+
+    /// The edges of the tree's closure: half of the letters and the plant together.
+    pub fn edges(&self) -> u32
+        ensures { result ≡ edges self.now }
+    {
+        ((self.letters.len() + 1) / 2) as u32
+    }
+
+    /// The nodes, the root node among them.
+    pub fn nodes(&self) -> u32
+        ensures { result ≡ nodes self.now }
+    {
+        occurrences(&self.letters, OPEN) + 1
+    }
+
+    /// The leaves, the plant among them.
+    pub fn leaves(&self) -> u32
+        ensures { result ≡ leaves self.now }
+    {
+        occurrences(&self.letters, LEAF) + 1
+    }
+}
+
+ghost use Rattle.std.specs.Prelude.{◌<◌, ◌^◌, length};
+ghost use Rattle.pm_trees.specs.Word.{count};
+
+/// How often the letter stands in the word.
+fn occurrences(word: &[u8], letter: u8) -> u32
+    requires { length word.now < 2 ^ 32 }
+    ensures { result ≡ count letter word.now }
+{
+    word.iter().filter(|x| **x == letter).count() as u32
 }

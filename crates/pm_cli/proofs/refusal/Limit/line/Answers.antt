@@ -1,0 +1,9 @@
+use Rattle.std.proofs.Common.{rules, arith}
+use Rattle.std.proofs.lemmas.Grind.{common_steps}
+use Rattle.pm_cli.proofs.refusal.Limit.line.Goals as goal
+
+pub returns-in-Bytes : goal.returns-in-Bytes
+returns-in-Bytes c = rw c.in-Bytes.is c.from_str.ensures.ok
+
+pub returns-in-Letters : goal.returns-in-Letters
+returns-in-Letters c = rw c.in-Letters.is c.format.ensures.ok

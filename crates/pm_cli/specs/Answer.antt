@@ -1,0 +1,22 @@
+-- The answer to words and bytes: the text for standard output, or why there is none.
+use Rattle.std.specs.Prelude.{◌≡◌, ℕ, ◌<◌, ◌≤◌, true, List, length, Result, Err}
+use Rattle.pm_io.specs.declared.TheConstants.{MAX_BYTES}
+use Rattle.pm_cli.specs.declared.words.Command.{Command}
+use Rattle.pm_cli.specs.declared.words.Command.TheVariants.{CloseEulerian}
+use Rattle.pm_cli.specs.declared.refusal.Limit.TheVariants.{Bytes}
+use Rattle.pm_cli.specs.declared.refusal.Refusal.{Refusal}
+use Rattle.pm_cli.specs.declared.refusal.Refusal.TheVariants.{Usage, Limited}
+use Rattle.pm_cli.specs.Commands.{spelling, reads, IsNoCommand}
+use Rattle.pm_cli.specs.Closing.{ClosesEulerian}
+
+-- what a command answers to a file within the limit
+abbrev pub CommandAnswers : Command → List ℕ → Result (List ℕ) Refusal → Type 0
+CommandAnswers CloseEulerian bytes answer = ClosesEulerian bytes answer
+
+-- the answer, by the first rule that applies
+pub data Answers (words : List (List ℕ)) (bytes : List ℕ) : Result (List ℕ) Refusal → Type 0 where
+  no_command : (k : ℕ) → IsNoCommand words k → Answers words bytes (Err (Usage k))
+  too_long : (command : Command) → words ≡ spelling command → reads command ≡ true → MAX_BYTES < length bytes
+      → Answers words bytes (Err (Limited Bytes))
+  of_file : (command : Command) → words ≡ spelling command → reads command ≡ true → length bytes ≤ MAX_BYTES
+      → (answer : Result (List ℕ) Refusal) → CommandAnswers command bytes answer → Answers words bytes answer

@@ -1,0 +1,88 @@
+-- How a run ends, and what stands in its streams then.
+use Rattle.std.specs.Prelude.{◌≡◌, ℕ, ◌<◌, ◌≤◌, ◌⊎◌, false, List, [], length, take, Option, Some, Result, Ok, Err, Vec, ⊤}
+use Rattle.std.specs.declared.alloc.Global.{Global}
+use Rattle.pm_io.specs.declared.TheConstants.{MAX_BYTES}
+use Rattle.pm_io.specs.Bytes.{added}
+use Rattle.pm_io.specs.Faults.{FaultsRose}
+use Rattle.pm_cli.specs.declared.words.Command.{Command}
+use Rattle.pm_cli.specs.declared.refusal.Limit.TheVariants.{Bytes}
+use Rattle.pm_cli.specs.declared.refusal.Refusal.TheVariants.{Limited}
+use Rattle.pm_cli.specs.declared.refusal.Stop.{Stop}
+use Rattle.pm_cli.specs.declared.refusal.Stop.TheVariants.{Refused, Read, Write, Memory}
+use Rattle.pm_cli.specs.Commands.{spelling, reads}
+use Rattle.pm_cli.specs.Answer.{Answers}
+use Rattle.pm_cli.specs.Lines.{status_of, line_of}
+
+-- the words are no command that reads
+abbrev pub ReadNothing : List (List ℕ) → Type 0
+ReadNothing words = (command : Command) → words ≡ spelling command → reads command ≡ false
+
+-- the input holds these bytes, where it tells them; where the words read nothing, any bytes serve
+abbrev pub IsInput : List (List ℕ) → Option (List ℕ) → List ℕ → Type 0
+IsInput words left bytes = (left ≡ Some bytes) ⊎ ReadNothing words
+
+-- some text is the answer, and its first n bytes were added to the output
+pub record HasWritten (words : List (List ℕ)) (bytes : List ℕ) (old new : Option (List ℕ)) : Type 0 where
+  pub text : List ℕ
+  pub answers : Answers words bytes (Ok text)
+  pub front : ℕ
+  pub written : new ≡ added old (take front text)
+
+-- some text is the answer, and it was added to the output whole
+pub record HasAnswered (words : List (List ℕ)) (bytes : List ℕ) (old new : Option (List ℕ)) : Type 0 where
+  pub text : List ℕ
+  pub answers : Answers words bytes (Ok text)
+  pub written : new ≡ added old text
+
+-- What was added to the output: the whole answer; nothing where the words and bytes are refused, as they are then, where
+-- the input failed, and where memory was wanting; a front of the answer where the output failed.
+abbrev pub EndsBy : List (List ℕ) → List ℕ → Option (List ℕ) → Option (List ℕ) → Result (Unit {0}) Stop → Type 0
+EndsBy words bytes old new (Ok done) = HasAnswered words bytes old new
+EndsBy words bytes old new (Err (Refused refusal)) = Answers words bytes (Err refusal) × (new ≡ old)
+EndsBy words bytes old new (Err Read) = new ≡ old
+EndsBy words bytes old new (Err Write) = HasWritten words bytes old new
+EndsBy words bytes old new (Err Memory) = new ≡ old
+
+-- the same for all bytes that the input may hold
+abbrev pub Ends : List (List ℕ) → Option (List ℕ) → Option (List ℕ) → Option (List ℕ) → Result (Unit {0}) Stop → Type 0
+Ends words left old new end = (bytes : List ℕ) → IsInput words left bytes → EndsBy words bytes old new end
+
+-- the line of the end was added to standard error, or that failed
+abbrev pub IsTold : Option (List ℕ) → Option (List ℕ) → ℕ → ℕ → Result (Unit {0}) Stop → Type 0
+IsTold old new faults_old faults_new end = (new ≡ added old (line_of end)) ⊎ FaultsRose faults_old faults_new
+
+-- all that the input held was read, within the limit, and it didn't fail
+pub record HasRead (old new : Option (List ℕ)) (faults_old faults_new : ℕ) (bytes : List ℕ) : Type 0 where
+  pub within : length bytes ≤ MAX_BYTES
+  pub whole : (left : List ℕ) → old ≡ Some left → (bytes ≡ left) × (new ≡ Some [])
+  pub calm : faults_new ≡ faults_old
+
+-- the input holds more than the limit, and it didn't fail
+pub record IsOverLimit (old : Option (List ℕ)) (faults_old faults_new : ℕ) : Type 0 where
+  pub over : (left : List ℕ) → old ≡ Some left → MAX_BYTES < length left
+  pub calm : faults_new ≡ faults_old
+
+-- the input was read whole, or why not
+abbrev pub IsReading : Option (List ℕ) → Option (List ℕ) → ℕ → ℕ → Result (Vec ℕ Global) Stop → Type 0
+IsReading old new faults_old faults_new (Ok bytes) = HasRead old new faults_old faults_new bytes.items
+IsReading old new faults_old faults_new (Err Read) = FaultsRose faults_old faults_new
+IsReading old new faults_old faults_new (Err Memory) = ⊤
+IsReading old new faults_old faults_new (Err (Refused (Limited Bytes))) = IsOverLimit old faults_old faults_new
+IsReading old new faults_old faults_new (Err stop) = ⊥
+
+-- the text was written whole, or a front of it
+abbrev pub IsWriting : List ℕ → Option (List ℕ) → Option (List ℕ) → ℕ → ℕ → Result (Unit {0}) Stop → Type 0
+IsWriting text old new faults_old faults_new (Ok done) = (new ≡ added old text) × (faults_new ≡ faults_old)
+IsWriting text old new faults_old faults_new (Err Write) = ((n : ℕ) × (new ≡ added old (take n text))) × FaultsRose faults_old faults_new
+IsWriting text old new faults_old faults_new (Err stop) = ⊥
+
+-- where the input told its bytes, none are left
+abbrev pub HasNothingLeft : Option (List ℕ) → Option (List ℕ) → Type 0
+HasNothingLeft old new = (left : List ℕ) → old ≡ Some left → new ≡ Some []
+
+-- what is told of a stop: the stop itself, or want of memory in place of a refusal
+abbrev pub IsToldFor : Stop → Stop → Type 0
+IsToldFor (Refused refusal) told = (told ≡ Refused refusal) ⊎ (told ≡ Memory)
+IsToldFor Read told = told ≡ Read
+IsToldFor Write told = told ≡ Write
+IsToldFor Memory told = told ≡ Memory

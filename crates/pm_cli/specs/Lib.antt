@@ -1,0 +1,7 @@
+pub mod Answer
+pub mod Answering
+pub mod Closing
+pub mod Commands
+pub mod Ending
+pub mod Lines
+pub mod TreeFile

@@ -1,0 +1,59 @@
+-- The statuses of the program, and the lines that it writes to its standard error.
+use Rattle.std.specs.Prelude.{ℕ, List, [], ◌∷◌, ◌++◌, codes, decimal, Result, Ok, Err}
+use Rattle.pm_cli.specs.declared.refusal.Limit.{Limit}
+use Rattle.pm_cli.specs.declared.refusal.Limit.TheVariants.{Bytes, Letters}
+use Rattle.pm_cli.specs.declared.refusal.TreeRule.{TreeRule}
+use Rattle.pm_cli.specs.declared.refusal.TreeRule.TheVariants.{Degree, Buds, Matched}
+use Rattle.pm_cli.specs.declared.refusal.Refusal.{Refusal}
+use Rattle.pm_cli.specs.declared.refusal.Refusal.TheVariants.{Usage, Text, Limited, Tree}
+use Rattle.pm_cli.specs.declared.refusal.Stop.{Stop}
+use Rattle.pm_cli.specs.declared.refusal.Stop.TheVariants.{Refused, Read, Write, Memory}
+
+-- the status of a refusal
+abbrev pub status_of_refusal : Refusal → ℕ
+status_of_refusal (Usage matched) = 2
+status_of_refusal (Text line) = 3
+status_of_refusal (Limited limit) = 7
+status_of_refusal (Tree rule) = 12
+
+-- the status of a run that stopped
+abbrev pub status_of_stop : Stop → ℕ
+status_of_stop (Refused refusal) = status_of_refusal refusal
+status_of_stop Read = 5
+status_of_stop Write = 8
+status_of_stop Memory = 9
+
+-- the status of a run
+abbrev pub status_of : Result (Unit {0}) Stop → ℕ
+status_of (Ok done) = 0
+status_of (Err stop) = status_of_stop stop
+
+-- a line of standard error
+abbrev pub line : List ℕ → List ℕ
+line text = codes "planarmap: " ++ text ++ 10 ∷ []
+
+abbrev pub text_of_limit : Limit → List ℕ
+text_of_limit Bytes = codes "limit bytes"
+text_of_limit (Letters letters) = codes "limit letters " ++ decimal letters
+
+abbrev pub text_of_rule : TreeRule → List ℕ
+text_of_rule (Degree place) = codes "tree degree " ++ decimal place
+text_of_rule (Buds place) = codes "tree buds " ++ decimal place
+text_of_rule (Matched bud) = codes "tree matched " ++ decimal bud
+
+abbrev pub text_of_refusal : Refusal → List ℕ
+text_of_refusal (Usage matched) = codes "usage " ++ decimal matched
+text_of_refusal (Text line) = codes "text " ++ decimal line
+text_of_refusal (Limited limit) = text_of_limit limit
+text_of_refusal (Tree rule) = text_of_rule rule
+
+abbrev pub text_of_stop : Stop → List ℕ
+text_of_stop (Refused refusal) = text_of_refusal refusal
+text_of_stop Read = codes "read"
+text_of_stop Write = codes "write"
+text_of_stop Memory = codes "memory"
+
+-- what a run writes to standard error: a line, and nothing where it did what was asked
+abbrev pub line_of : Result (Unit {0}) Stop → List ℕ
+line_of (Ok done) = []
+line_of (Err stop) = line (text_of_stop stop)

@@ -1,0 +1,15 @@
+ghost use Rattle.std.specs.Prelude.{◌≤◌, length};
+ghost use Rattle.pm_io.specs.declared.TheConstants.{MAX_BYTES as limit};
+ghost use Rattle.pm_cli.specs.Answering.{IsAnswerOf};
+
+use crate::refusal::Stop;
+use crate::words::Command;
+use std::alloc::Global;
+
+// What a command answers to a file.
+pub(crate) fn answer(alloc: Global, command: Command, bytes: &[u8]) -> Result<Vec<u8>, Stop>
+    requires { length bytes.now ≤ limit }
+    ensures { IsAnswerOf command bytes.now result }
+{
+    Err(Stop::Memory)
+}

@@ -1,0 +1,126 @@
+ghost use Rattle.std.specs.Prelude.{◌≡◌, IfOk, string_bytes};
+ghost use Rattle.pm_cli.specs.Lines.{line, text_of_limit, text_of_rule, text_of_refusal, status_of_refusal, status_of_stop};
+
+use std::alloc::{AllocError, Global};
+
+/// A limit that the input passes.
+#[derive(Clone, Copy, Debug, PartialEq, Eq)]
+pub enum Limit {
+    /// More than `MAX_BYTES` bytes.
+    Bytes,
+    /// More letters than a tree may have: how many.
+    Letters { letters: u64 },
+}
+
+/// A rule that a tree breaks. Places count from 0, the plant.
+#[derive(Clone, Copy, Debug, PartialEq, Eq)]
+pub enum TreeRule {
+    /// The least node whose degree is odd or too great.
+    Degree { place: u32 },
+    /// The least node with a wrong number of buds.
+    Buds { place: u32 },
+    /// The plant is in a pair with this bud.
+    Matched { bud: u32 },
+}
+
+/// Why words and bytes have no text for an answer.
+#[derive(Clone, Copy, Debug, PartialEq, Eq)]
+pub enum Refusal {
+    /// The words are no command; so many of them begin one.
+    Usage { matched: u32 },
+    /// The first line, counted from 1, that breaks the form of the file.
+    Text { line: u32 },
+    /// A limit that is passed.
+    Limited(Limit),
+    /// A rule that the tree breaks.
+    Tree(TreeRule),
+}
+
+/// Why a run stopped short of its answer.
+#[derive(Clone, Copy, Debug, PartialEq, Eq)]
+pub enum Stop {
+    /// The words and the bytes are refused.
+    Refused(Refusal),
+    /// The input failed.
+    Read,
+    /// The output failed.
+    Write,
+    /// Memory is wanting.
+    Memory,
+}
+
+impl From<AllocError> for Stop {
+    ghost use Rattle.std.specs.Prelude.{◌≡◌};
+    ghost use Rattle.pm_cli.specs.declared.refusal.Stop.TheVariants.{Memory};
+
+    ghost from_gives = { λ _ stop. stop ≡ Memory };
+
+    fn from(_: AllocError) -> Stop {
+        Stop::Memory
+    }
+}
+
+impl Refusal {
+    // The status that tells it.
+    pub(crate) fn status(self) -> u8
+        ensures { result ≡ status_of_refusal self }
+    {
+        match self {
+            Refusal::Usage { .. } => 2,
+            Refusal::Text { .. } => 3,
+            Refusal::Limited(_) => 7,
+            Refusal::Tree(_) => 12,
+        }
+    }
+
+    // The line that tells it.
+    pub(crate) fn line(self, alloc: Global) -> Result<String, AllocError>
+        ensures { IfOk result (λ text. string_bytes text ≡ line (text_of_refusal self)) }
+    {
+        match self {
+            Refusal::Usage { matched } => format!(in alloc; "planarmap: usage {matched}\n"),
+            Refusal::Text { line } => format!(in alloc; "planarmap: text {line}\n"),
+            Refusal::Limited(limit) => limit.line(alloc),
+            Refusal::Tree(rule) => rule.line(alloc),
+        }
+    }
+}
+
+impl Limit {
+    fn line(self, alloc: Global) -> Result<String, AllocError>
+        ensures { IfOk result (λ text. string_bytes text ≡ line (text_of_limit self)) }
+    {
+        match self {
+            Limit::Bytes => String::from_str(alloc, "planarmap: limit bytes\n"),
+            Limit::Letters { letters } => {
+                format!(in alloc; "planarmap: limit letters {letters}\n")
+            }
+        }
+    }
+}
+
+impl TreeRule {
+    fn line(self, alloc: Global) -> Result<String, AllocError>
+        ensures { IfOk result (λ text. string_bytes text ≡ line (text_of_rule self)) }
+    {
+        match self {
+            TreeRule::Degree { place } => format!(in alloc; "planarmap: tree degree {place}\n"),
+            TreeRule::Buds { place } => format!(in alloc; "planarmap: tree buds {place}\n"),
+            TreeRule::Matched { bud } => format!(in alloc; "planarmap: tree matched {bud}\n"),
+        }
+    }
+}
+
+impl Stop {
+    // The status that tells it.
+    pub(crate) fn status(self) -> u8
+        ensures { result ≡ status_of_stop self }
+    {
+        match self {
+            Stop::Refused(refusal) => refusal.status(),
+            Stop::Read => 5,
+            Stop::Write => 8,
+            Stop::Memory => 9,
+        }
+    }
+}

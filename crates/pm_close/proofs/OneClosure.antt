@@ -1,0 +1,84 @@
+-- A contour has one closure.
+use Rattle.std.proofs.Common.{◌≡◌, ℕ, suc, ◌*◌, ◌%◌, ◌<◌, ◌≤◌, Bool, cond, ltb, List, length, get_or, refl, sym, ◌∙◌, ap, subst, arith}
+use Rattle.std.specs.Prelude.{slice_index}
+use Rattle.std.proofs.lemmas.Grind.{same_number_lists}
+use Rattle.pm_perm.specs.Permutation.{IsPermutationBelow}
+use Rattle.pm_perm.proofs.Counts.{count_below-same}
+use Rattle.pm_perm.proofs.Permutations.{IsReached, reached}
+use Rattle.pm_map.specs.Structure.{Structure, CarriesTo}
+use Rattle.pm_map.specs.Rotation.{RotationSystem, structure_of}
+use Rattle.pm_close.specs.Closure.{IsAcross, IsClosure, IsClosed, edges_before, dart_of}
+use Rattle.pm_close.proofs.TwinLemmas.{HasOnePartner, twin_unique, twin_within}
+
+-- each place has a place across
+pub record HasAcross (places : List ℕ) : Type 0 where
+  pub one : HasOnePartner places
+  pub some : (p : ℕ) → p < length places → (q : ℕ) × IsAcross places p q
+
+-- twins that agree below n number the places below n alike
+edges_before_same : (t u : ℕ → ℕ) (n p : ℕ) → ((k : ℕ) → k < n → t k ≡ u k) → p ≤ n → edges_before t p ≡ edges_before u p
+edges_before_same t u n p same l = count_below-same (λ k. ltb k (t k)) (λ k. ltb k (u k)) p (λ k m. ap (ltb k) (same k (omega arith)))
+
+dart_of_same : (t u : ℕ → ℕ) (n p : ℕ) → ((k : ℕ) → k < n → t k ≡ u k) → p < n → t p < n → dart_of t p ≡ dart_of u p
+dart_of_same t u n p same l m =
+    let here : edges_before t p ≡ edges_before u p = edges_before_same t u n p same (omega arith) in
+    let there : edges_before t (t p) ≡ edges_before u (u p) = edges_before_same t u n (t p) same (omega arith) ∙ ap (edges_before u) (same p l) in
+    joined t u p (same p l) here there where
+      joined : (t u : ℕ → ℕ) (p : ℕ) → t p ≡ u p → edges_before t p ≡ edges_before u p → edges_before t (t p) ≡ edges_before u (u p) → dart_of t p ≡ dart_of u p
+      joined t u p e here there =
+          ap (λ (q : ℕ). cond (ltb p q) (2 * edges_before t p) (suc (2 * edges_before t (t p)))) e
+          ∙ ap (λ (x : ℕ). cond (ltb p (u p)) (2 * x) (suc (2 * edges_before t (t p)))) here
+          ∙ ap (λ (x : ℕ). cond (ltb p (u p)) (2 * edges_before u p) (suc (2 * x))) there
+
+-- the two closures on places have the same twins, and the same places next
+closures_twins : (places : List ℕ) (a b : Structure) → HasAcross places → IsClosure places a → IsClosure places b → (p : ℕ) → p < length places → a.twin p ≡ b.twin p
+closures_twins places a b h one two p l = twin_unique places p (a.twin p) (b.twin p) h.one (one.twins p l) (two.twins p l)
+
+closures_next : (places : List ℕ) (a b : Structure) → HasAcross places → IsClosure places a → IsClosure places b → (p : ℕ) → p < length places → a.next p ≡ b.next p
+closures_next places a b h one two p l =
+    let across = h.some p l in
+    one.rotation p across.0 l across.1 ∙ sym (two.rotation p across.0 l across.1)
+
+same_maps : (a b : RotationSystem) → a.sigma ≡ b.sigma → a.root ≡ b.root → a ≡ b
+same_maps a b s r = ap (made a.root) s ∙ ap (λ (x : ℕ). made x b.sigma) r where
+  made : ℕ → List ℕ → RotationSystem
+  made x xs = record { sigma = xs; root = x }
+
+-- a contour has one closed map
+pub closed_unique : (places : List ℕ) (a b : RotationSystem) → HasAcross places → 0 < length places → IsClosed places a → IsClosed places b → a ≡ b
+closed_unique places a b h some one two =
+    let s = one.closure in
+    let t = two.closure in
+    let twins : (p : ℕ) → p < length places → s.twin p ≡ t.twin p = closures_twins places s t h one.is_closure two.is_closure in
+    let darts : (p : ℕ) → p < length places → dart_of s.twin p ≡ dart_of t.twin p = λ p l.
+    dart_of_same s.twin t.twin (length places) p twins l (twin_within places p (s.twin p) (one.is_closure.twins p l)) in
+    same_maps a b
+    (same_number_lists a.sigma b.sigma (long places a b one two) (λ d l. entries places a b h one two twins darts d l))
+    (roots places a b some one two darts) where
+      long : (places : List ℕ) (a b : RotationSystem) → IsClosed places a → IsClosed places b → length a.sigma ≡ length b.sigma
+      long places a b one two = omega (arith, one.carries.darts, two.carries.darts, one.is_closure.darts, two.is_closure.darts)
+
+      roots : (places : List ℕ) (a b : RotationSystem) → 0 < length places → (one : IsClosed places a) → (two : IsClosed places b)
+          → ((p : ℕ) → p < length places → dart_of one.closure.twin p ≡ dart_of two.closure.twin p) → a.root ≡ b.root
+      roots places a b some one two darts =
+          let first : dart_of one.closure.twin one.closure.root ≡ a.root = one.carries.root (omega (arith, one.is_closure.darts)) in
+          let second : dart_of two.closure.twin two.closure.root ≡ b.root = two.carries.root (omega (arith, two.is_closure.darts)) in
+          sym first ∙ ap (dart_of one.closure.twin) one.is_closure.root ∙ darts 0 some ∙ ap (dart_of two.closure.twin) (sym two.is_closure.root) ∙ second
+
+      entries : (places : List ℕ) (a b : RotationSystem) → HasAcross places → (one : IsClosed places a) → (two : IsClosed places b)
+          → ((p : ℕ) → p < length places → one.closure.twin p ≡ two.closure.twin p)
+          → ((p : ℕ) → p < length places → dart_of one.closure.twin p ≡ dart_of two.closure.twin p)
+          → (d : ℕ) → d < length a.sigma → slice_index a.sigma d ≡ slice_index b.sigma d
+      entries places a b h one two twins darts d l =
+          let s = one.closure in
+          let t = two.closure in
+          let r : IsReached (dart_of s.twin) s.darts d = reached (dart_of s.twin) s.darts d one.carries.renumbers (omega (arith, one.carries.darts)) in
+          let below : r.from < length places = omega (arith, one.is_closure.darts, r.below) in
+          let below_t : r.from < t.darts = omega (arith, below, two.is_closure.darts) in
+          let from_t : dart_of t.twin r.from ≡ d = sym (darts r.from below) ∙ r.value in
+          let next_a : dart_of s.twin (s.next r.from) ≡ slice_index a.sigma d = one.carries.next r.from r.below ∙ ap (slice_index a.sigma) r.value in
+          let next_b : dart_of t.twin (t.next r.from) ≡ slice_index b.sigma d = two.carries.next r.from below_t ∙ ap (slice_index b.sigma) from_t in
+          let nexts : s.next r.from ≡ t.next r.from = closures_next places s t h one.is_closure two.is_closure r.from below in
+          let across = h.some r.from below in
+          let next_below : s.next r.from < length places = omega (arith, one.is_closure.rotation r.from across.0 below across.1, below) in
+          sym next_a ∙ darts (s.next r.from) next_below ∙ ap (dart_of t.twin) nexts ∙ next_b

@@ -1,0 +1,33 @@
+ghost use Rattle.std.specs.Prelude.{◌≡◌, ℕ, ◌<◌, length, vec_len, IfOk};
+ghost use Rattle.pm_trees.specs.Word.{contour, IsBracketing};
+ghost use Rattle.pm_match.specs.Pairing.{IsPairing};
+ghost use Rattle.pm_close.specs.Joining.{IsJoined};
+ghost use Rattle.pm_close.specs.Twinning.{IsTwinList};
+
+use pm_match::Pairing;
+use pm_trees::Tree;
+use std::alloc::{AllocError, Global};
+
+// The twin of each place: the other bracket, the other place of the pair, or the other free leaf.
+pub(crate) fn twins_of(
+    alloc: Global,
+    tree: &Tree,
+    across: &[u32],
+    pairing: &Pairing,
+) -> Result<Vec<u32>, AllocError>
+    requires bracketing { IsBracketing (contour tree.now) across.now }
+    requires pairing { IsPairing (contour tree.now) pairing.now }
+    ensures { IfOk result (λ twins. IsTwinList (contour tree.now) twins.items) }
+{
+    let _letters = tree.letters();
+    let mut twins = Vec::from_slice(alloc, across)?;
+    for pair in pairing.pairs() {
+        let (bud, leaf) = *pair;
+        twins[bud as usize] = leaf;
+        twins[leaf as usize] = bud;
+    }
+    let (first, second) = pairing.free();
+    twins[first as usize] = second;
+    twins[second as usize] = first;
+    Ok(twins)
+}

@@ -1,0 +1,4 @@
+pub mod BytesLemmas
+pub mod FaultsLemmas
+mod Turns
+mod Writes

@@ -1,0 +1,75 @@
+-- Counts of the numbers below a bound.
+use Rattle.std.proofs.Common.{◌≡◌, ◌≢◌, ℕ, zero, suc, ◌+◌, ◌<◌, ◌≤◌, Bool, true, not, ◌&&◌, cond, eqb, refl, inl, inr, arith}
+use Rattle.std.proofs.lemmas.Bool.{cases_eq}
+use Rattle.pm_perm.specs.Count.{count_below}
+
+-- tests that agree below the bound count alike
+pub count_below-same : (P Q : ℕ → Bool) (n : ℕ) → ((k : ℕ) → k < n → P k ≡ Q k) → count_below P n ≡ count_below Q n
+count_below-same P Q zero h = refl
+count_below-same P Q (suc n) h = let rest = count_below-same P Q n (λ k lt. h k (omega arith)) in let here = h n (omega arith) in rw (here, rest)
+
+-- a test that passes less often counts less
+pub count_below-le : (P Q : ℕ → Bool) (n : ℕ) → ((k : ℕ) → k < n → P k ≡ true → Q k ≡ true) → count_below P n ≤ count_below Q n
+count_below-le P Q zero h = omega arith
+count_below-le P Q (suc n) h = let rest = count_below-le P Q n (λ k lt. h k (omega arith)) in count_step P Q n (h n (omega arith)) rest where
+  count_step : (P Q : ℕ → Bool) (n : ℕ) → (P n ≡ true → Q n ≡ true) → count_below P n ≤ count_below Q n → count_below P (suc n) ≤ count_below Q (suc n)
+  count_step P Q n h rest = grind arith
+
+-- at most all pass
+pub count_below-bound : (P : ℕ → Bool) (n : ℕ) → count_below P n ≤ n
+count_below-bound P zero = omega arith
+count_below-bound P (suc n) = let rest = count_below-bound P n in grind arith
+
+-- one number that passes, left out, counts one less
+pub count_below-without : (P : ℕ → Bool) (a n : ℕ) → a < n → count_below P n ≡ count_below (λ k. P k && not (eqb k a)) n + cond (P a) 1 0
+count_below-without P a zero h = absurd (omega arith)
+count_below-without P a (suc n) h = elim (cases_eq a n) [
+  | inl same ↦ without_last P a n same (count_below-same P (λ k. P k && not (eqb k a)) n (λ k lt. without_other P a k (omega arith)))
+  | inr other ↦ without_more P a n other (count_below-without P a n (omega arith))
+] where
+  without_other : (P : ℕ → Bool) (a k : ℕ) → k ≢ a → P k ≡ (P k && not (eqb k a))
+  without_other P a k h = grind arith
+
+  without_last : (P : ℕ → Bool) (a n : ℕ) → a ≡ n → count_below P n ≡ count_below (λ k. P k && not (eqb k a)) n → count_below P (suc n) ≡ count_below (λ k. P k && not (eqb k a)) (suc n) + cond (P a) 1 0
+  without_last P a n e h = grind arith
+
+  without_more : (P : ℕ → Bool) (a n : ℕ) → (a ≡ n → ⊥) → count_below P n ≡ count_below (λ k. P k && not (eqb k a)) n + cond (P a) 1 0 → count_below P (suc n) ≡ count_below (λ k. P k && not (eqb k a)) (suc n) + cond (P a) 1 0
+  without_more P a n ne h = grind arith
+
+-- under a map that takes different numbers to different numbers, no more pass than there are
+pub count_below-image : (P : ℕ → Bool) (f : ℕ → ℕ) (n m : ℕ) → ((k : ℕ) → k < n → f k < m) → ((j k : ℕ) → j < n → k < n → f j ≡ f k → j ≡ k) → count_below (λ k. P (f k)) n ≤ count_below P m
+count_below-image P f zero m stays injective = omega arith
+count_below-image P f (suc n) m stays injective =
+    let Q : ℕ → Bool = λ k. P k && not (eqb k (f n)) in
+    let fewer = count_below-image Q f n m (λ k lt. stays k (omega arith)) (λ j k lt lt' e. injective j k (omega arith) (omega arith) e) in
+    let same = count_below-same (λ k. P (f k)) (λ k. Q (f k)) n (λ k lt. apart P (f k) (f n) (λ e. below_not k n lt (injective k n (omega arith) (omega arith) e))) in
+    let whole = count_below-without P (f n) m (stays n (omega arith)) in
+    omega (arith, fewer, same, whole) where
+      below_not : (k n : ℕ) → k < n → k ≡ n → ⊥
+      below_not k n lt e = omega arith
+
+      apart : (P : ℕ → Bool) (k a : ℕ) → (k ≡ a → ⊥) → P k ≡ (P k && not (eqb k a))
+      apart P k a h = grind arith
+
+-- all numbers below a bound pass the test that always passes
+pub count_below-all : (P : ℕ → Bool) (n : ℕ) → ((k : ℕ) → k < n → P k ≡ true) → count_below P n ≡ n
+count_below-all P zero h = refl
+count_below-all P (suc n) h = all_step P n (h n (omega arith)) (count_below-all P n (λ k lt. h k (omega arith))) where
+  all_step : (P : ℕ → Bool) (n : ℕ) → P n ≡ true → count_below P n ≡ n → count_below P (suc n) ≡ suc n
+  all_step P n h rest = grind arith
+
+-- more numbers, more that pass
+pub count_below-grows : (P : ℕ → Bool) (m n : ℕ) → m ≤ n → count_below P m ≤ count_below P n
+count_below-grows P m zero h = let e : m ≡ 0 = omega arith in rw e (omega arith)
+count_below-grows P m (suc n) h = elim (cases_eq m (suc n)) [
+    inl same ↦ rw same (omega arith)
+  | inr less ↦ grows_step P m n (count_below-grows P m n (omega arith)) ] where
+  grows_step : (P : ℕ → Bool) (m n : ℕ) → count_below P m ≤ count_below P n → count_below P m ≤ count_below P (suc n)
+  grows_step P m n h = grind arith
+
+-- of two tests of which each number passes exactly one, all numbers pass one
+pub count_below-parts : (P Q : ℕ → Bool) (n : ℕ) → ((k : ℕ) → k < n → P k ≡ not (Q k)) → count_below P n + count_below Q n ≡ n
+count_below-parts P Q zero h = omega arith
+count_below-parts P Q (suc n) h = parts_step P Q n (h n (omega arith)) (count_below-parts P Q n (λ k lt. h k (omega arith))) where
+  parts_step : (P Q : ℕ → Bool) (n : ℕ) → P n ≡ not (Q n) → count_below P n + count_below Q n ≡ n → count_below P (suc n) + count_below Q (suc n) ≡ suc n
+  parts_step P Q n h rest = grind arith

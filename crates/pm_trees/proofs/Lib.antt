@@ -1,0 +1,12 @@
+pub mod Ahead
+pub mod Balance
+pub mod Least
+pub mod Levels
+pub mod Nesting
+pub mod Own
+pub mod Pairing
+pub mod Reading
+pub mod Stack
+pub mod Tally
+pub mod Unique
+pub mod Walk
