@@ -1,19 +1,19 @@
 -- The names by first mention renumber the map, and make it canonical.
-use Rattle.std.proofs.Common.{◌≡◌, ◌≢◌, ℕ, zero, suc, ◌+◌, ◌-◌, ◌*◌, ◌/◌, ◌%◌, ◌<◌, ◌≤◌, ◌⊎◌, inl, inr, Bool, true, false, cond, eqb, List, [], ◌∷◌, ◌++◌, map, length, get_or, slice_index, refl, sym, ◌∙◌, ap, subst, arith, length-append}
+use Rattle.std.proofs.Common.{◌≡◌, ℕ, ◌+◌, ◌*◌, ◌/◌, ◌%◌, ◌<◌, ◌≤◌, inl, inr, cond, eqb, List, [], ◌∷◌, ◌++◌, map, length, get_or, slice_index, refl, sym, ◌∙◌, ap, subst, arith, length-append}
 use Rattle.std.proofs.lemmas.List.{get_or_append_left, append-nil, get_or-map, length-map}
 use Rattle.std.proofs.lemmas.Bool.{cases_eq, cond-true, cond-false, eq-eqb, ne_eqb}
 use Rattle.pm_limits.specs.declared.TheConstants.{MAX_EDGES}
 use Rattle.pm_perm.specs.Permutation.{IsPermutationBelow}
-use Rattle.pm_perm.proofs.Pigeonhole.{Places, Places-le}
-use Rattle.pm_map.specs.Structure.{Structure, IsStructure, IsConnected, CarriesTo}
+use Rattle.pm_perm.proofs.Pigeonhole.{Places-le}
+use Rattle.pm_map.specs.Structure.{Structure, CarriesTo}
 use Rattle.pm_map.specs.Rotation.{RotationSystem, structure_of, twin, IsRootedMap}
-use Rattle.pm_map.specs.Canonical.{first_mentions, IsCanonical, IsCanonicalOf}
-use Rattle.pm_map.specs.Meeting.{StandsAt, Stands, IsVertexFrom, darts_of, Meets, at_root, onward, IsMeetingList, no_dart, complete}
+use Rattle.pm_map.specs.Canonical.{first_mentions, IsCanonicalOf}
+use Rattle.pm_map.specs.Meeting.{darts_of, Meets, at_root, onward, IsMeetingList, no_dart, complete}
 use Rattle.pm_map.proofs.UniqueMeeting.{vertex_begins}
 use Rattle.pm_map.proofs.CarriedMeeting.{AreBelow, darts_of-onward, darts_of-map, meeting_list_carried}
 use Rattle.pm_map.proofs.CarriedStructure.{structure_carried, connected_carried}
-use Rattle.pm_map.proofs.CanonicalNames.{KeepsTwins, HasEdge, each_edge_is_mentioned, first_mentions-map, carries_keeps_twins}
-use Rattle.pm_canon.specs.Kept.{HasEachOnce, IsMeetingOrder}
+use Rattle.pm_map.proofs.CanonicalNames.{HasEdge, each_edge_is_mentioned, first_mentions-map, carries_keeps_twins}
+use Rattle.pm_canon.specs.Kept.{IsMeetingOrder}
 use Rattle.pm_canon.specs.Naming.{NamesMentions, IsRenamed}
 use Rattle.pm_canon.proofs.MentionLemmas.{twin-twin, first_mentions-stands, twin_below}
 

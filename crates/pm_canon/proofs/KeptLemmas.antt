@@ -1,11 +1,11 @@
 -- Lists in which each dart stands once, and marks, with one dart more.
-use Rattle.std.proofs.Common.{◌≡◌, ◌≢◌, ℕ, ◌+◌, ◌-◌, ◌<◌, ◌≤◌, ◌⊎◌, inl, inr, Bool, true, false, List, [], ◌∷◌, ◌++◌, length, get_or, set, take, Some, refl, sym, ◌∙◌, ap, subst, arith, length-append}
+use Rattle.std.proofs.Common.{◌≡◌, ℕ, ◌+◌, ◌<◌, ◌≤◌, inl, inr, Bool, true, false, List, [], ◌∷◌, ◌++◌, length, get_or, set, take, Some, sym, ◌∙◌, ap, subst, arith}
 use Rattle.std.proofs.lemmas.List.{get_or_append_left, get_or_push, get_or-set_same, get_or-set_other, length_push, length-take-le, get_or-take}
 use Rattle.std.specs.List.{slice_get}
 use Rattle.std.proofs.lemmas.Option.{get_or_from_slice_get}
 use Rattle.std.proofs.lemmas.Bool.{cases_lt, cases_eq, false≢true}
-use Rattle.pm_perm.proofs.Pigeonhole.{Places, Places-le}
-use Rattle.pm_map.specs.Meeting.{StandsAt, Stands}
+use Rattle.pm_perm.proofs.Pigeonhole.{Places-le}
+use Rattle.pm_map.specs.Meeting.{Stands}
 use Rattle.pm_map.proofs.StandsLemmas.{Stands-push, Stands-append_left, cases_push}
 use Rattle.pm_canon.specs.Kept.{HasEachOnce, MarksDarts}
 

@@ -1,16 +1,16 @@
 -- The vertices met so far, with one vertex more, and at the end.
-use Rattle.std.proofs.Common.{◌≡◌, ℕ, zero, suc, ◌+◌, ◌-◌, ◌<◌, ◌≤◌, ◌⊎◌, inl, inr, Bool, true, false, List, [], ◌∷◌, ◌++◌, length, get_or, replicate, Some, refl, sym, ◌∙◌, ap, subst, arith, add-one, length-append}
+use Rattle.std.proofs.Common.{◌≡◌, ℕ, ◌+◌, ◌<◌, ◌≤◌, inl, inr, Bool, false, List, [], ◌∷◌, ◌++◌, length, get_or, replicate, Some, refl, sym, ◌∙◌, ap, subst, arith, length-append}
 use Rattle.std.proofs.lemmas.List.{get_or_append_left, append-nil, get_or-replicate, get_or_past, length-replicate}
 use Rattle.std.specs.List.{slice_get}
 use Rattle.std.proofs.lemmas.Option.{slice_get-get_or}
 use Rattle.std.proofs.lemmas.Bool.{cases_lt, cases_eq, false≢true}
-use Rattle.pm_map.specs.Structure.{Structure, IsStructure, IsConnected}
-use Rattle.pm_map.specs.Meeting.{StandsAt, Stands, IsVertexFrom, IsNextUnmet, darts_of, Meets, at_root, onward, IsMeetingList, no_dart, complete}
-use Rattle.pm_map.proofs.StandsLemmas.{Stands-append_left, Stands-append_right, Stands-get_or}
+use Rattle.pm_map.specs.Structure.{Structure, IsConnected}
+use Rattle.pm_map.specs.Meeting.{Stands, IsNextUnmet, at_root, onward, IsMeetingList, no_dart, complete}
+use Rattle.pm_map.proofs.StandsLemmas.{Stands-append_left, Stands-append_right}
 use Rattle.pm_map.proofs.CarriedMeeting.{darts_of-onward}
 use Rattle.pm_map.proofs.UniqueMeeting.{vertex_begins}
 use Rattle.pm_map.proofs.WholeMeeting.{meeting_list_is_whole}
-use Rattle.pm_canon.specs.Kept.{HasEachOnce, MarksDarts, IsWhole, IsKept, AppendsVertex, IsMeeting, IsMeetingOrder}
+use Rattle.pm_canon.specs.Kept.{MarksDarts, IsKept, AppendsVertex, IsMeeting, IsMeetingOrder}
 
 none_stands : (d : ℕ) → Stands [] d → ⊥
 none_stands d s = let within : s.0 < 0 = s.1.within in omega arith

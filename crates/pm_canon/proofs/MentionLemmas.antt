@@ -1,10 +1,10 @@
 -- First mentions in a list with one dart more.
-use Rattle.std.proofs.Common.{◌≡◌, ℕ, zero, suc, ◌+◌, ◌-◌, ◌*◌, ◌%◌, ◌<◌, ◌≤◌, ◌⊎◌, inl, inr, Bool, true, false, cond, ◌||◌, ◌==◌, List, [], ◌∷◌, ◌++◌, length, get_or, refl, sym, ◌∙◌, ap, subst, arith}
+use Rattle.std.proofs.Common.{◌≡◌, ℕ, zero, suc, ◌+◌, ◌%◌, ◌<◌, ◌≤◌, ◌⊎◌, inl, inr, Bool, true, false, cond, ◌==◌, List, [], ◌∷◌, ◌++◌, length, get_or, refl, ◌∙◌, ap, arith}
 use Rattle.std.specs.List.{list_any}
-use Rattle.std.proofs.lemmas.Bool.{cases_lt, cases_eq, cases_Bool, or_cases, or_left, or_right, or_parts, or_from, false_from_ne_true}
+use Rattle.std.proofs.lemmas.Bool.{or_cases, or_left, or_right, or_parts, or_from, false_from_ne_true}
 use Rattle.pm_map.specs.Rotation.{twin}
 use Rattle.pm_map.specs.Canonical.{first_mentions_after, first_mentions}
-use Rattle.pm_map.specs.Meeting.{StandsAt, Stands}
+use Rattle.pm_map.specs.Meeting.{Stands}
 use Rattle.pm_map.proofs.WholeMeeting.{test_from_stands, stands_from_test, stands-cons}
 use Rattle.pm_map.proofs.CanonicalNames.{first_mentions_after-seen, first_mentions_after-new}
 

@@ -1,15 +1,12 @@
 -- The names of the darts so far, with one mention more, and what the names do.
-use Rattle.std.proofs.Common.{◌≡◌, ◌≢◌, ℕ, zero, suc, ◌+◌, ◌-◌, ◌*◌, ◌/◌, ◌%◌, ◌<◌, ◌≤◌, ◌⊎◌, inl, inr, Bool, true, false, cond, eqb, List, [], ◌∷◌, ◌++◌, length, get_or, set, refl, sym, ◌∙◌, ap, subst, arith, length-set}
+use Rattle.std.proofs.Common.{◌≡◌, ◌≢◌, ℕ, ◌+◌, ◌*◌, ◌<◌, inl, inr, Bool, true, List, [], ◌∷◌, ◌++◌, length, get_or, set, refl, sym, ◌∙◌, ap, subst, arith, length-set}
 use Rattle.std.proofs.lemmas.List.{get_or_append_left, get_or_push, get_or-set_same, get_or-set_other, length_push}
-use Rattle.std.proofs.lemmas.Bool.{cases_lt, cases_eq, cases_Bool, cond-true, cond-false, eq-eqb, ne_eqb}
-use Rattle.pm_perm.specs.Permutation.{IsPermutationBelow}
-use Rattle.pm_perm.proofs.Pigeonhole.{Places, Places-le}
+use Rattle.std.proofs.lemmas.Bool.{cases_lt}
 use Rattle.pm_map.specs.Rotation.{twin}
 use Rattle.pm_map.specs.Canonical.{first_mentions}
-use Rattle.pm_map.specs.Meeting.{StandsAt, Stands}
-use Rattle.pm_map.proofs.CanonicalNames.{each_edge_is_mentioned}
-use Rattle.pm_canon.specs.Kept.{HasEachOnce, MarksDarts}
-use Rattle.pm_canon.specs.Naming.{IsNaming, NamesMentions}
+use Rattle.pm_map.specs.Meeting.{Stands}
+use Rattle.pm_canon.specs.Kept.{MarksDarts}
+use Rattle.pm_canon.specs.Naming.{IsNaming}
 use Rattle.pm_canon.proofs.KeptLemmas.{MarksDarts-push}
 use Rattle.pm_canon.proofs.MentionLemmas.{twin-twin, twin-other, first_mentions-seen, first_mentions-new, first_mentions-stands}
 

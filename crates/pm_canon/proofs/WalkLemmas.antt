@@ -1,12 +1,11 @@
 -- A walk around a vertex: the darts so far, and the dart that comes next.
-use Rattle.std.proofs.Common.{◌≡◌, ◌≢◌, ℕ, zero, suc, ◌+◌, ◌-◌, ◌<◌, ◌≤◌, ◌⊎◌, inl, inr, Bool, true, false, List, [], ◌∷◌, ◌++◌, length, get_or, set, Some, refl, sym, ◌∙◌, ap, subst, arith, length-append, append_assoc, get_or-append-add}
-use Rattle.std.specs.List.{slice_get}
+use Rattle.std.proofs.Common.{◌≡◌, ◌≢◌, ℕ, zero, suc, ◌+◌, ◌-◌, ◌<◌, inl, inr, Bool, true, List, [], ◌∷◌, ◌++◌, length, get_or, set, Some, refl, sym, ◌∙◌, ap, subst, arith, length-append, append_assoc, get_or-append-add}
 use Rattle.std.proofs.lemmas.List.{get_or_append_left, get_or_push, length_push}
-use Rattle.std.proofs.lemmas.Bool.{cases_lt, cases_eq}
+use Rattle.std.proofs.lemmas.Bool.{cases_lt}
 use Rattle.pm_perm.specs.Permutation.{IsPermutationBelow}
 use Rattle.pm_map.specs.Structure.{Structure}
-use Rattle.pm_map.specs.Meeting.{StandsAt, Stands, IsVertexFrom}
-use Rattle.pm_map.proofs.StandsLemmas.{Stands-get_or, Stands-push, Stands-append_left, Stands-append_right, cases_Stands, cases_push}
+use Rattle.pm_map.specs.Meeting.{Stands, IsVertexFrom}
+use Rattle.pm_map.proofs.StandsLemmas.{Stands-get_or, Stands-append_left, Stands-append_right, cases_Stands}
 use Rattle.pm_canon.specs.Kept.{HasEachOnce, MarksDarts, IsWhole, Precedes, IsKept, AppendsVertex}
 use Rattle.pm_canon.proofs.KeptLemmas.{HasEachOnce-push, MarksDarts-push}
 

@@ -10,7 +10,6 @@ mod meeting;
 mod naming;
 
 pub use meeting::meeting_list;
-
 use pm_map::RootedMap;
 use std::alloc::{AllocError, Global};
 

@@ -1,10 +1,10 @@
 -- A vertex and a list of vertices, printed so far.
-use Rattle.std.proofs.Common.{◌≡◌, ◌≢◌, ℕ, zero, suc, ◌+◌, ◌-◌, ◌<◌, ◌≤◌, List, [], ◌∷◌, ◌++◌, length, get_or, refl, sym, ◌∙◌, ap, subst, arith, append_assoc, length-append}
+use Rattle.std.proofs.Common.{◌≡◌, ◌≢◌, ℕ, ◌+◌, ◌-◌, ◌<◌, ◌≤◌, List, [], ◌∷◌, ◌++◌, length, get_or, refl, sym, ◌∙◌, ap, subst, arith, append_assoc, length-append}
 use Rattle.std.specs.Prelude.{decimal, codes}
 use Rattle.std.proofs.lemmas.List.{append-nil, length_push, get_or-append_right, get_or_append_left}
 use Rattle.pm_perm.specs.Permutation.{IsPermutationBelow}
-use Rattle.pm_map.specs.Structure.{Structure, IsStructure}
-use Rattle.pm_map.specs.Meeting.{StandsAt, Stands, IsVertexFrom, darts_of, Meets, at_root, onward, IsMeetingList, no_dart, complete}
+use Rattle.pm_map.specs.Structure.{Structure}
+use Rattle.pm_map.specs.Meeting.{Stands, IsVertexFrom, darts_of, Meets, at_root, onward, IsMeetingList, no_dart, complete}
 use Rattle.pm_map.proofs.UniqueMeeting.{vertex_begins, vertex_is_unique}
 use Rattle.pm_map.proofs.CarriedMeeting.{darts_of-append}
 use Rattle.pm_canon.specs.Kept.{HasEachOnce, IsWhole, IsKept, IsMeetingOrder}

@@ -1,4 +1,4 @@
-use Rattle.std.proofs.Common.{◌≡◌, length, ap, sym, subst, ◌∙◌}
+use Rattle.std.proofs.Common.{sym, subst}
 use Rattle.pm_perm.specs.Permutation.{IsPermutationBelow}
 use Rattle.pm_canon.specs.Naming.{IsRenamed}
 use Rattle.pm_canon.proofs.CanonLemmas.{IsNumbered, IsNumbered-from, names_permute, renamed_is_map, renamed_is_canonical}

@@ -1,5 +1,5 @@
 use Rattle.std.proofs.lemmas.List.{length_push}
-use Rattle.std.proofs.Common.{[], ◌∷◌, ◌++◌, ◌≡◌, ◌+◌, ◌<◌, ◌≤◌, length, vec_len, true, arith, length-set}
+use Rattle.std.proofs.Common.{[], ◌∷◌, ◌++◌, ◌<◌, ◌≤◌, length, true, arith, length-set}
 use Rattle.pm_map.specs.Rotation.{structure_of}
 use Rattle.pm_canon.proofs.KeptLemmas.{MarksDarts-unmarked, HasEachOnce-length}
 use Rattle.pm_canon.proofs.WalkLemmas.{IsWalking-begins, IsWalking-step, IsWalking-kept, IsWalking-below, IsWalking-once}

@@ -1,4 +1,4 @@
-use Rattle.std.proofs.Common.{◌-◌, ◌<◌, length, vec_len}
+use Rattle.std.proofs.Common.{◌-◌, length, vec_len}
 use Rattle.pm_map.specs.Rotation.{structure_of}
 use Rattle.pm_canon.proofs.WalkLemmas.{IsWalking}
 use Rattle.pm_canon.proofs.meeting.append_vertex.Given as goal

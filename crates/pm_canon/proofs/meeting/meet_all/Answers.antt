@@ -1,4 +1,4 @@
-use Rattle.std.proofs.Common.{◌≡◌, ◌<◌, ◌≤◌, length, vec_len, arith}
+use Rattle.std.proofs.Common.{◌≤◌, length, arith}
 use Rattle.pm_map.specs.Rotation.{structure_of}
 use Rattle.pm_canon.proofs.KeptLemmas.{HasEachOnce-length}
 use Rattle.pm_canon.proofs.MeetingLemmas.{IsMeeting-root, IsMeeting-all}

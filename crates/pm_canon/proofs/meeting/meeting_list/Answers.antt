@@ -1,6 +1,5 @@
-use Rattle.std.proofs.Common.{◌≡◌, ◌<◌, length, replicate, false, arith, rules, eqb-true, sym}
-use Rattle.pm_map.specs.Rotation.{structure_of}
-use Rattle.pm_canon.proofs.MeetingLemmas.{IsMeetingOrder-none, unmarked_at, IsKept-none}
+use Rattle.std.proofs.Common.{◌≡◌, length, replicate, false, rules, eqb-true, sym}
+use Rattle.pm_canon.proofs.MeetingLemmas.{IsMeetingOrder-none, unmarked_at}
 use Rattle.pm_canon.proofs.meeting.meeting_list.Goals as goal
 
 pub returns-then-is_empty : goal.returns-then-is_empty

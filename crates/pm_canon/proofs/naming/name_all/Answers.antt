@@ -1,4 +1,4 @@
-use Rattle.std.proofs.Common.{length, take, subst, arith}
+use Rattle.std.proofs.Common.{subst, arith}
 use Rattle.std.proofs.lemmas.List.{take_all}
 use Rattle.pm_canon.specs.Naming.{NamesMentions}
 use Rattle.pm_canon.proofs.NamingLemmas.{IsNaming-none}

@@ -1,6 +1,6 @@
-use Rattle.std.proofs.Common.{◌≡◌, ◌+◌, ◌<◌, ◌≤◌, length, arith, rules}
+use Rattle.std.proofs.Common.{◌+◌, ◌≤◌, length, arith}
 use Rattle.pm_map.specs.Rotation.{structure_of}
-use Rattle.pm_mapfile.proofs.PrintLemmas.{IsPrinting-begins, IsPrinting-step, IsPrinting-below, IsPrinting-count, IsPrinting-all}
+use Rattle.pm_mapfile.proofs.PrintLemmas.{IsPrinting-begins, IsPrinting-step, IsPrinting-count, IsPrinting-all}
 use Rattle.pm_mapfile.proofs.write.put_vertex.Goals as goal
 
 pub walk-init : goal.walk-init

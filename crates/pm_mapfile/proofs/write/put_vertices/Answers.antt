@@ -1,7 +1,7 @@
-use Rattle.std.proofs.Common.{◌≡◌, ◌+◌, ◌<◌, ◌≤◌, length, arith, rules}
+use Rattle.std.proofs.Common.{◌+◌, ◌≤◌, length, arith}
 use Rattle.pm_map.specs.Rotation.{structure_of}
 use Rattle.pm_canon.proofs.KeptLemmas.{HasEachOnce-length}
-use Rattle.pm_mapfile.proofs.PrintLemmas.{ArePrinting-none, ArePrinting-onward, ArePrinting-all, ArePrinting-place, AppendsLine-some}
+use Rattle.pm_mapfile.proofs.PrintLemmas.{ArePrinting-none, ArePrinting-onward, ArePrinting-all, ArePrinting-place}
 use Rattle.pm_mapfile.proofs.write.put_vertices.Goals as goal
 
 pub lines-init : goal.lines-init
