@@ -1,19 +1,19 @@
 -- The map that closing makes is the closure, and a rooted map.
-use Rattle.std.proofs.Common.{◌≡◌, ◌≢◌, ℕ, suc, ◌+◌, ◌*◌, ◌%◌, ◌<◌, ◌≤◌, List, length, refl, sym, ◌∙◌, ap, subst, arith}
+use Rattle.std.proofs.Common.{◌≡◌, ℕ, suc, ◌*◌, ◌%◌, ◌<◌, ◌≤◌, List, length, refl, sym, ◌∙◌, ap, subst, arith}
 use Rattle.std.specs.Prelude.{slice_index}
 use Rattle.pm_limits.specs.declared.TheConstants.{MAX_EDGES}
-use Rattle.pm_perm.specs.Permutation.{IsPermutationBelow, IsPermutationList}
+use Rattle.pm_perm.specs.Permutation.{IsPermutationList}
 use Rattle.pm_trees.specs.Word.{IsBracketing}
 use Rattle.pm_trees.proofs.Nesting.{other_below}
 use Rattle.pm_match.specs.Pairing.{Pairs, IsPairing}
-use Rattle.pm_map.specs.Structure.{Structure, IsStructure, IsConnected, CarriesTo}
-use Rattle.pm_map.specs.Rotation.{RotationSystem, structure_of, IsRootedMap}
+use Rattle.pm_map.specs.Structure.{CarriesTo}
+use Rattle.pm_map.specs.Rotation.{structure_of, IsRootedMap}
 use Rattle.pm_map.proofs.CarriedStructure.{structure_carried, connected_carried}
-use Rattle.pm_close.specs.Closure.{IsClosure, IsClosed, dart_of}
+use Rattle.pm_close.specs.Closure.{IsClosed, dart_of}
 use Rattle.pm_close.specs.Twinning.{IsTwinning, IsTwinList}
-use Rattle.pm_close.proofs.TwinLemmas.{HasOnePartner, twins_apart}
+use Rattle.pm_close.proofs.TwinLemmas.{twins_apart}
 use Rattle.pm_close.proofs.ClosureLemmas.{IsLaidOut, laid_out, laid_out_closes, laid_out_twins, laid_out_structure, laid_out_connected, bracketing_across}
-use Rattle.pm_close.proofs.DartLemmas.{firsts, firsts_half, dart_of_permutes, dart_of-twin, dart_of-root}
+use Rattle.pm_close.proofs.DartLemmas.{firsts_half, dart_of_permutes, dart_of-twin, dart_of-root}
 use Rattle.pm_close.proofs.JoiningSteps.{one_partner}
 
 -- the lists that closing has made, and how they hang together

@@ -1,42 +1,30 @@
 -- The steps of joining twins.
-use Rattle.std.proofs.Common.{◌≡◌, ◌≢◌, ℕ, zero, suc, ◌+◌, ◌<◌, ◌≤◌, ◌⊎◌, inl, inr, IsTrue, List, [], ◌∷◌, length, get_or, set, refl, sym, ◌∙◌, ap, subst, arith, length-set, get_or-set_other}
+use Rattle.std.proofs.Common.{◌≡◌, ◌≢◌, ℕ, zero, suc, ◌+◌, ◌<◌, ◌⊎◌, inl, inr, IsTrue, List, [], ◌∷◌, length, get_or, set, refl, sym, ◌∙◌, ap, subst, arith, length-set, get_or-set_other}
 use Rattle.std.specs.Prelude.{slice_index, slice_get, Option, None, Some, All}
 use Rattle.std.proofs.lemmas.Bool.{cases_lt, cases_eq}
 use Rattle.std.proofs.lemmas.Grind.{get_or-set_at}
-use Rattle.pm_trees.specs.declared.letters.TheConstants.{LEAF, BUD, OPEN, CLOSE}
-use Rattle.pm_trees.specs.Word.{IsBracketPair, IsBracketing, is_letter, contour}
+use Rattle.pm_trees.specs.declared.letters.TheConstants.{LEAF, BUD}
+use Rattle.pm_trees.specs.Word.{IsBracketing, is_letter, contour}
 use Rattle.pm_trees.proofs.Stack.{letters_at}
-use Rattle.pm_trees.proofs.Tally.{letter_cases, IsOneOf, a_leaf, a_bud, an_open, a_close}
+use Rattle.pm_trees.proofs.Tally.{letter_cases, a_leaf, a_bud, an_open, a_close}
 use Rattle.pm_trees.proofs.Nesting.{one_closer, one_opener}
 use Rattle.pm_match.specs.Pair.{IsPair, IsFree}
 use Rattle.pm_match.specs.Pairing.{Pairs, IsPairing}
-use Rattle.pm_match.proofs.Meeting.{pair_unique, pair_unique_leaf}
-use Rattle.pm_match.proofs.Partners.{leaf_cases}
+use Rattle.pm_match.proofs.Partners.{third_free}
 use Rattle.pm_close.specs.Closure.{AreTwins, edge_down, edge_up, pair_bud, pair_leaf, free_leaves}
 use Rattle.pm_close.specs.Twinning.{IsTwinList}
 use Rattle.pm_close.specs.Joining.{IsApart, IsJoined}
-use Rattle.pm_close.proofs.TwinLemmas.{HasOnePartner, within, twins_back}
+use Rattle.pm_close.proofs.TwinLemmas.{HasOnePartner, within}
 
 -- the partners of a contour whose pairs are found are single
 pub one_partner : (places : List ℕ) (found : Pairs) → IsPairing places found → HasOnePartner places
 one_partner places found h = record {
   close_of = one_closer places;
   open_of = λ p q r a b. one_opener places p r q a b;
-  leaf_of = pair_unique places;
-  bud_of = λ p q r a b. pair_unique_leaf places p q r a b;
-  third = λ p q r a b c ne ne'. third places found h p q r a b c ne ne';
-} where
-  third : (places : List ℕ) (found : Pairs) → IsPairing places found → (p q r : ℕ) → IsFree places p → IsFree places q → IsFree places r → p ≢ q → p ≢ r → q ≡ r
-  third places found h p q r a b c ne ne' = elim (h.no_third p a) [
-    | inl p_first ↦ elim (h.no_third q b) [
-      | inl q_first ↦ absurd (ne (p_first ∙ sym q_first))
-      | inr q_second ↦ elim (h.no_third r c) [ inl r_first ↦ absurd (ne' (p_first ∙ sym r_first)) | inr r_second ↦ q_second ∙ sym r_second ]
-    ]
-    | inr p_second ↦ elim (h.no_third q b) [
-      | inl q_first ↦ elim (h.no_third r c) [ inl r_first ↦ q_first ∙ sym r_first | inr r_second ↦ absurd (ne' (p_second ∙ sym r_second)) ]
-      | inr q_second ↦ absurd (ne (p_second ∙ sym q_second))
-    ]
-  ]
+  leaf_of = h.one_leaf;
+  bud_of = h.one_bud;
+  third = λ p q r a b c ne other. third_free places found p q r h a b c ne other;
+}
 
 -- before the first pair
 pub joined_start : (places other : List ℕ) (pairs : List (ℕ × ℕ)) → length other ≡ length places → IsJoined places other pairs 0 other
@@ -154,7 +142,7 @@ module _ (word other : List ℕ) (found : Pairs) (letters : All (λ x. IsTrue (i
   bracket_left : (k p : ℕ) → k ≡ length found.pairs → p < length (contour word) → p ≢ found.first_free → p ≢ found.second_free → IsApart found.pairs k p
       → AreTwins (contour word) p (slice_index other p)
   bracket_left k p all l not_first not_second apart = elim (letter_cases (slice_index (contour word) p) (letters_at word p letters l)) [
-    | a_leaf e ↦ elim (leaf_cases (contour word) found p pairing e) [
+    | a_leaf e ↦ elim (pairing.each_leaf p e) [
       | inl pair ↦ absurd (paired_not k p pair.0 p all apart pair.1 (inr refl))
       | inr free ↦ elim free [ inl f ↦ absurd (not_first f) | inr s ↦ absurd (not_second s) ]
     ]

@@ -4,4 +4,5 @@ pub mod DartLemmas
 pub mod JoiningSteps
 pub mod NumberingSteps
 pub mod OneClosure
+pub mod RootedClosure
 pub mod TwinLemmas

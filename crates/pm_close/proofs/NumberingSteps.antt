@@ -1,16 +1,16 @@
 -- The steps of numbering the places and of writing the rotation.
-use Rattle.std.proofs.Common.{◌≡◌, ◌≢◌, ℕ, suc, ◌+◌, ◌*◌, ◌%◌, ◌<◌, ◌≤◌, ◌⊎◌, inl, inr, Bool, ltb, List, [], ◌∷◌, ◌++◌, length, get_or, set, refl, sym, ◌∙◌, ap, subst, arith, length-append, length-set}
+use Rattle.std.proofs.Common.{◌≡◌, ◌≢◌, ℕ, suc, ◌+◌, ◌*◌, ◌%◌, ◌<◌, ◌≤◌, inl, inr, ltb, List, [], ◌∷◌, ◌++◌, length, get_or, set, refl, sym, ◌∙◌, ap, arith, length-append, length-set}
 use Rattle.std.specs.Prelude.{slice_index}
-use Rattle.std.proofs.lemmas.Bool.{cases_lt, cases_eq, lt-ltb, le-ltb}
+use Rattle.std.proofs.lemmas.Bool.{cases_lt, lt-ltb, le-ltb}
 use Rattle.std.proofs.lemmas.List.{get_or_append_left}
 use Rattle.std.proofs.Math.Seq.{get_or-append_seam}
 use Rattle.std.proofs.lemmas.Grind.{get_or_default_zero, get_or-set_at}
-use Rattle.std.proofs.Common.{get_or-set_other, get_or-set_same}
-use Rattle.pm_perm.specs.Permutation.{IsPermutationBelow, IsPermutationList}
+use Rattle.std.proofs.Common.{get_or-set_other}
+use Rattle.pm_perm.specs.Permutation.{IsPermutationList}
 use Rattle.pm_perm.proofs.Counts.{count_below-bound}
 use Rattle.pm_close.specs.Closure.{edges_before, dart_of}
 use Rattle.pm_close.specs.Twinning.{IsTwinning}
-use Rattle.pm_close.proofs.DartLemmas.{firsts, firsts_is, is_first, dart_of-first, dart_of-second}
+use Rattle.pm_close.proofs.DartLemmas.{firsts_is, dart_of-first, dart_of-second}
 
 -- the places below this one have their darts
 pub record IsNumbered (twins darts : List ℕ) (edges place : ℕ) : Type 0 where

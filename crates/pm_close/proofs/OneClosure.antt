@@ -1,12 +1,11 @@
 -- A contour has one closure.
-use Rattle.std.proofs.Common.{◌≡◌, ℕ, suc, ◌*◌, ◌%◌, ◌<◌, ◌≤◌, Bool, cond, ltb, List, length, get_or, refl, sym, ◌∙◌, ap, subst, arith}
+use Rattle.std.proofs.Common.{◌≡◌, ℕ, suc, ◌*◌, ◌<◌, ◌≤◌, cond, ltb, List, length, sym, ◌∙◌, ap, arith}
 use Rattle.std.specs.Prelude.{slice_index}
 use Rattle.std.proofs.lemmas.Grind.{same_number_lists}
-use Rattle.pm_perm.specs.Permutation.{IsPermutationBelow}
 use Rattle.pm_perm.proofs.Counts.{count_below-same}
 use Rattle.pm_perm.proofs.Permutations.{IsReached, reached}
-use Rattle.pm_map.specs.Structure.{Structure, CarriesTo}
-use Rattle.pm_map.specs.Rotation.{RotationSystem, structure_of}
+use Rattle.pm_map.specs.Structure.{Structure}
+use Rattle.pm_map.specs.Rotation.{RotationSystem}
 use Rattle.pm_close.specs.Closure.{IsAcross, IsClosure, IsClosed, edges_before, dart_of}
 use Rattle.pm_close.proofs.TwinLemmas.{HasOnePartner, twin_unique, twin_within}
 

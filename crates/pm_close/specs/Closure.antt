@@ -1,5 +1,5 @@
 -- The closure of a blossoming tree (Schaeffer 1997). Its darts are the places of the contour, the plant at place 0.
-use Rattle.std.specs.Prelude.{◌≡◌, ◌≢◌, ℕ, suc, ◌+◌, ◌*◌, ◌%◌, ◌<◌, nat_lt, List, length, slice_index, if◌then◌else◌}
+use Rattle.std.specs.Prelude.{◌≡◌, ◌≢◌, ℕ, suc, ◌*◌, ◌%◌, ◌<◌, nat_lt, List, length, slice_index, if◌then◌else◌}
 use Rattle.pm_perm.specs.Count.{count_below}
 use Rattle.pm_trees.specs.declared.letters.TheConstants.{OPEN, CLOSE}
 use Rattle.pm_trees.specs.Word.{IsBracketPair}

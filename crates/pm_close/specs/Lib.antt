@@ -1,4 +1,5 @@
 pub mod Closing
 pub mod Closure
 pub mod Joining
+pub mod Laws
 pub mod Twinning

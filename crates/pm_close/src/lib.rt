@@ -3,6 +3,8 @@
 
 mod closing;
 mod joining;
+mod laws;
 mod numbering;
 
 pub use closing::{CloseRefusal, Closed, close_tree};
+pub use laws::closure_is_unique;

@@ -1,8 +1,5 @@
-use Rattle.std.proofs.Common.{◌≡◌, ℕ, ◌<◌, List, length, get_or, set, sym, ap, ◌∙◌, subst, arith}
-use Rattle.pm_trees.specs.Word.{contour}
-use Rattle.pm_match.specs.Pair.{IsPair}
-use Rattle.pm_close.specs.Joining.{IsJoined}
-use Rattle.pm_close.proofs.JoiningSteps.{joined_start, joined_more, joined_all, entry_is, pair_within, free_within}
+use Rattle.std.proofs.Common.{◌≡◌, ℕ, length, ap, arith}
+use Rattle.pm_close.proofs.JoiningSteps.{joined_more, joined_all, entry_is, pair_within, free_within}
 use Rattle.pm_close.proofs.joining.twins_of.Goals as goal
 
 pub index_mut-requires : goal.index_mut-requires

@@ -1,0 +1,14 @@
+-- What holds of closures: a tree has one, and it is a rooted map.
+use Rattle.std.specs.Prelude.{◌≡◌, ℕ, List}
+use Rattle.pm_trees.specs.Word.{contour}
+use Rattle.pm_trees.specs.Blossoming.{IsBlossoming}
+use Rattle.pm_map.specs.Rotation.{RotationSystem, IsRootedMap}
+use Rattle.pm_close.specs.Closure.{IsClosed}
+
+-- a blossoming tree has no two closures
+abbrev pub HasOneClosure : Type 0
+HasOneClosure = (word : List ℕ) (one other : RotationSystem) → IsBlossoming word → IsClosed (contour word) one → IsClosed (contour word) other → one ≡ other
+
+-- the closure of a blossoming tree is a rooted map
+abbrev pub ClosureIsRooted : Type 0
+ClosureIsRooted = (word : List ℕ) (map : RotationSystem) → IsBlossoming word → IsClosed (contour word) map → IsRootedMap map
