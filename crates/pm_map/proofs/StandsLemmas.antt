@@ -20,11 +20,14 @@ Stands-append_right first second d s =
 pub cases_Stands : (first second : List ℕ) (d : ℕ) → Stands (first ++ second) d → Stands first d ⊎ Stands second d
 cases_Stands first second d s =
     elim (cases_lt s.0 (length first)) [
-      inl h ↦ inl (s.0, record { within = h; here = sym (get_or_append_left first second 0 s.0 h) ∙ s.1.here })
-    | inr h ↦ inr (s.0 - length first, record {
+      | inl h ↦ inl (s.0, record { within = h; here = sym (get_or_append_left first second 0 s.0 h) ∙ s.1.here })
+      | inr h ↦ inr (
+        s.0 - length first,
+        record {
           within = omega (arith, length-append first second, s.1.within);
-          here = sym (get_or-append_right first second (length first) s.0 0 refl h) ∙ s.1.here
-        })
+          here = sym (get_or-append_right first second (length first) s.0 0 refl h) ∙ s.1.here;
+        },
+      )
     ]
 
 -- the last dart stands in the list
@@ -36,11 +39,11 @@ Stands-push darts d =
 pub cases_push : (darts : List ℕ) (d e : ℕ) → Stands (darts ++ d ∷ []) e → Stands darts e ⊎ (d ≡ e)
 cases_push darts d e s =
     elim (cases_Stands darts (d ∷ []) e s) [
-      inl h ↦ inl h
-    | inr h ↦ inr (only d e h)
+      | inl h ↦ inl h
+      | inr h ↦ inr (only d e h)
     ] where
-  only : (d e : ℕ) → Stands (d ∷ []) e → d ≡ e
-  only d e h = let first : h.0 ≡ 0 = omega (arith, h.1.within) in sym (ap (λ k. get_or (d ∷ []) k 0) first) ∙ h.1.here
+      only : (d e : ℕ) → Stands (d ∷ []) e → d ≡ e
+      only d e h = let first : h.0 ≡ 0 = omega (arith, h.1.within) in sym (ap (λ k. get_or (d ∷ []) k 0) first) ∙ h.1.here
 
 -- what stands in a renamed list is the name of what stands in the list
 pub Stands-map : (f : ℕ → ℕ) (darts : List ℕ) (d : ℕ) → Stands darts d → Stands (map f darts) (f d)

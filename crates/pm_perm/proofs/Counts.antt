@@ -62,8 +62,9 @@ count_below-all P (suc n) h = all_step P n (h n (omega arith)) (count_below-all 
 pub count_below-grows : (P : ℕ → Bool) (m n : ℕ) → m ≤ n → count_below P m ≤ count_below P n
 count_below-grows P m zero h = let e : m ≡ 0 = omega arith in rw e (omega arith)
 count_below-grows P m (suc n) h = elim (cases_eq m (suc n)) [
-    inl same ↦ rw same (omega arith)
-  | inr less ↦ grows_step P m n (count_below-grows P m n (omega arith)) ] where
+  | inl same ↦ rw same (omega arith)
+  | inr less ↦ grows_step P m n (count_below-grows P m n (omega arith))
+] where
   grows_step : (P : ℕ → Bool) (m n : ℕ) → count_below P m ≤ count_below P n → count_below P m ≤ count_below P (suc n)
   grows_step P m n h = grind arith
 
