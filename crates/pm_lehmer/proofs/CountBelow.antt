@@ -42,10 +42,10 @@ pub count_below-mono : (small great : ℕ) (entries : List ℕ) → small ≤ gr
 count_below-mono small great [] le = omega (arith, count_below-nil small, count_below-nil great)
 count_below-mono small great (entry ∷ later) le =
     elim (cases_lt entry small) [
-      inl is_less ↦ omega (arith, count_below-smaller small entry later is_less, count_below-smaller great entry later (omega arith), count_below-mono small great later le)
-    | inr not_less ↦ elim (cases_lt entry great) [
-        inl is_less ↦ omega (arith, count_below-other small entry later not_less, count_below-smaller great entry later is_less, count_below-mono small great later le)
-      | inr no_less ↦ omega (arith, count_below-other small entry later not_less, count_below-other great entry later no_less, count_below-mono small great later le)
+      | inl is_less ↦ omega (arith, count_below-smaller small entry later is_less, count_below-smaller great entry later (omega arith), count_below-mono small great later le)
+      | inr not_less ↦ elim (cases_lt entry great) [
+        | inl is_less ↦ omega (arith, count_below-other small entry later not_less, count_below-smaller great entry later is_less, count_below-mono small great later le)
+        | inr no_less ↦ omega (arith, count_below-other small entry later not_less, count_below-other great entry later no_less, count_below-mono small great later le)
       ]
     ]
 
@@ -56,10 +56,10 @@ count_below-stands number zero (entry ∷ later) inside is =
     omega (arith, is, count_below-other number entry later (omega (arith, is)), count_below-smaller (suc number) entry later (omega (arith, is)), count_below-mono number (suc number) later (omega arith))
 count_below-stands number (suc place) (entry ∷ later) inside is =
     elim (cases_lt entry number) [
-      inl is_less ↦ omega (arith, count_below-smaller number entry later is_less, count_below-smaller (suc number) entry later (omega arith), count_below-stands number place later (omega arith) is)
-    | inr not_less ↦ elim (cases_lt entry (suc number)) [
-        inl is_less ↦ omega (arith, count_below-other number entry later not_less, count_below-smaller (suc number) entry later is_less, count_below-stands number place later (omega arith) is)
-      | inr no_less ↦ omega (arith, count_below-other number entry later not_less, count_below-other (suc number) entry later no_less, count_below-stands number place later (omega arith) is)
+      | inl is_less ↦ omega (arith, count_below-smaller number entry later is_less, count_below-smaller (suc number) entry later (omega arith), count_below-stands number place later (omega arith) is)
+      | inr not_less ↦ elim (cases_lt entry (suc number)) [
+        | inl is_less ↦ omega (arith, count_below-other number entry later not_less, count_below-smaller (suc number) entry later is_less, count_below-stands number place later (omega arith) is)
+        | inr no_less ↦ omega (arith, count_below-other number entry later not_less, count_below-other (suc number) entry later no_less, count_below-stands number place later (omega arith) is)
       ]
     ]
 
@@ -72,10 +72,10 @@ count_below-twice number zero (suc second) (entry ∷ later) before inside is_fi
 count_below-twice number (suc first) zero (entry ∷ later) before inside is_first is_second = absurd (omega arith)
 count_below-twice number (suc first) (suc second) (entry ∷ later) before inside is_first is_second =
     elim (cases_lt entry number) [
-      inl is_less ↦ omega (arith, count_below-smaller number entry later is_less, count_below-smaller (suc number) entry later (omega arith), count_below-twice number first second later (omega arith) (omega arith) is_first is_second)
-    | inr not_less ↦ elim (cases_lt entry (suc number)) [
-        inl is_less ↦ omega (arith, count_below-other number entry later not_less, count_below-smaller (suc number) entry later is_less, count_below-twice number first second later (omega arith) (omega arith) is_first is_second)
-      | inr no_less ↦ omega (arith, count_below-other number entry later not_less, count_below-other (suc number) entry later no_less, count_below-twice number first second later (omega arith) (omega arith) is_first is_second)
+      | inl is_less ↦ omega (arith, count_below-smaller number entry later is_less, count_below-smaller (suc number) entry later (omega arith), count_below-twice number first second later (omega arith) (omega arith) is_first is_second)
+      | inr not_less ↦ elim (cases_lt entry (suc number)) [
+        | inl is_less ↦ omega (arith, count_below-other number entry later not_less, count_below-smaller (suc number) entry later is_less, count_below-twice number first second later (omega arith) (omega arith) is_first is_second)
+        | inr no_less ↦ omega (arith, count_below-other number entry later not_less, count_below-other (suc number) entry later no_less, count_below-twice number first second later (omega arith) (omega arith) is_first is_second)
       ]
     ]
 
@@ -86,8 +86,8 @@ count_below-absent number (entry ∷ later) absent =
     let rest : count_below (suc number) later ≡ count_below number later = count_below-absent number later (λ place inside. absent (suc place) (omega arith)) in
     let other : entry ≢ number = absent 0 (omega arith) in
     elim (cases_lt entry number) [
-      inl is_less ↦ omega (arith, rest, count_below-smaller number entry later is_less, count_below-smaller (suc number) entry later (omega arith))
-    | inr not_less ↦ omega (arith, rest, other, count_below-other number entry later not_less, count_below-other (suc number) entry later (omega (arith, other)))
+      | inl is_less ↦ omega (arith, rest, count_below-smaller number entry later is_less, count_below-smaller (suc number) entry later (omega arith))
+      | inr not_less ↦ omega (arith, rest, other, count_below-other number entry later not_less, count_below-other (suc number) entry later (omega (arith, other)))
     ]
 
 -- different places hold different numbers
@@ -100,10 +100,15 @@ count_below-step number [] different = omega (arith, count_below-nil number, cou
 count_below-step number (entry ∷ later) different =
     let tail : HasDifferentEntries later = record { injective = λ first second in_first in_second same. omega (arith, different.injective (suc first) (suc second) (omega arith) (omega arith) same) } in
     elim (cases_eq entry number) [
-      inl is ↦ omega (arith, is, count_below-other number entry later (omega (arith, is)), count_below-smaller (suc number) entry later (omega (arith, is)),
-        count_below-absent number later (λ place inside same. absurd (omega (arith, different.injective 0 (suc place) (omega arith) (omega arith) (omega (arith, is, same))))))
-    | inr other ↦ elim (cases_lt entry number) [
-        inl is_less ↦ omega (arith, count_below-smaller number entry later is_less, count_below-smaller (suc number) entry later (omega arith), count_below-step number later tail)
-      | inr not_less ↦ omega (arith, other, count_below-other number entry later not_less, count_below-other (suc number) entry later (omega (arith, other)), count_below-step number later tail)
+      | inl is ↦ omega (
+        arith,
+        is,
+        count_below-other number entry later (omega (arith, is)),
+        count_below-smaller (suc number) entry later (omega (arith, is)),
+        count_below-absent number later (λ place inside same. absurd (omega (arith, different.injective 0 (suc place) (omega arith) (omega arith) (omega (arith, is, same))))),
+      )
+      | inr other ↦ elim (cases_lt entry number) [
+        | inl is_less ↦ omega (arith, count_below-smaller number entry later is_less, count_below-smaller (suc number) entry later (omega arith), count_below-step number later tail)
+        | inr not_less ↦ omega (arith, other, count_below-other number entry later not_less, count_below-other (suc number) entry later (omega (arith, other)), count_below-step number later tail)
       ]
     ]

@@ -13,8 +13,8 @@ code_of [] = []
 code_of (entry ∷ later) = count_below entry later ∷ code_of later
 
 -- a list that can be a code: entry k is below the length less k
-abbrev pub IsArrangementCode : List ℕ → Type 0
-IsArrangementCode code = (place : ℕ) → place < length code → slice_index code place + place < length code
+pub record IsArrangementCode (code : List ℕ) : Type 0 where
+  pub below : (place : ℕ) → place < length code → slice_index code place + place < length code
 
 -- a permutation of the numbers from 0 on with this code
 pub record IsArrangementOf (code arrangement : List ℕ) : Type 0 where

@@ -18,6 +18,7 @@ pub fn arrange(alloc: Global, code: &[u64]) -> Result<Vec<u32>, AllocError>
 
     ensures arranged { IfOk result (λ v. IsArrangementOf code.now v.items) }
     ensures only { IfOk result (λ v. IsOnlyArrangementOf code.now v.items) }
+    ensures length { IfOk result (λ v. length v.items ≡ length code.now) }
 {
     let mut counts = vec![in alloc; 0u32; code.len()]?;
     let mut arrangement = vec![in alloc; 0u32; code.len()]?;

@@ -1,7 +1,7 @@
 //! From a list to its code.
 ghost use Rattle.std.specs.Prelude.{◌≡◌, ℕ, ◌^◌, ◌<◌, length, slice_index, EachIndex, IfOk};
 ghost use Rattle.std.specs.List.Sorted.{IsNonDecreasing};
-ghost use Rattle.pm_lehmer.specs.Lehmer.{count_below, code_of};
+ghost use Rattle.pm_lehmer.specs.Lehmer.{count_below, code_of, IsArrangementCode};
 
 use crate::counts::put;
 use std::alloc::{AllocError, Global};
@@ -14,7 +14,10 @@ use std::alloc::{AllocError, Global};
 /// `AllocError` where memory runs out.
 pub fn code(alloc: Global, entries: &[u32]) -> Result<Vec<u64>, AllocError>
     requires { length entries.now < 2 ^ 32 }
-    ensures { IfOk result (λ v. v.items ≡ code_of entries.now) }
+
+    ensures code { IfOk result (λ v. v.items ≡ code_of entries.now) }
+    ensures is_code { IfOk result (λ v. IsArrangementCode v.items) }
+    ensures length { IfOk result (λ v. length v.items ≡ length entries.now) }
 {
     let mut sorted = Vec::from_slice(alloc, entries)?;
     sorted.sort_unstable();
@@ -40,7 +43,9 @@ fn count_later(entries: &[u32], sorted: &[u32], counts: &mut [u32], code: &mut [
     requires sorted { IsNonDecreasing sorted.now }
     requires ranks { (number : ℕ) → count_below number sorted.now ≡ count_below number entries.now }
     requires none_counted { EachIndex counts.old (λ place. slice_index counts.old place ≡ 0) }
-    ensures { code.new ≡ code_of entries.now }
+
+    ensures code { code.new ≡ code_of entries.now }
+    ensures is_code { IsArrangementCode code.new }
 {
     'from_last: for place in (0..entries.len()).rev() {
         let rank = rank_in(sorted, entries[place]);

@@ -10,3 +10,6 @@ mod laws;
 pub use arranging::arrange;
 pub use coding::code;
 pub use laws::{arrange_undoes_code, code_undoes_arrange};
+
+#[cfg(test)]
+mod tests;

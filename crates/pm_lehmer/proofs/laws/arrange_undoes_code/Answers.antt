@@ -6,5 +6,5 @@ pub returns : goal.returns
 returns c = record {
   is_code = code_of-is_code;
   undoes = λ entries permutation. record { is_permutation = permutation; has_code = refl };
-  only = λ entries permutation. record { only = λ other is. IsArrangementOf-unique _ other entries is (record { is_permutation = permutation; has_code = refl }) }
+  only = λ entries permutation. record { only = λ other is. IsArrangementOf-unique _ other entries is (record { is_permutation = permutation; has_code = refl }) };
 }

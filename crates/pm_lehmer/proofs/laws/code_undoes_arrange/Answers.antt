@@ -5,5 +5,5 @@ pub returns : goal.returns
 returns c = record {
   has_arrangement = has_arrangement;
   only = λ code arrangement arranged. record { only = λ other is. IsArrangementOf-unique code other arrangement is arranged };
-  undoes = λ code arrangement arranged. arranged.has_code
+  undoes = λ code arrangement arranged. arranged.has_code;
 }
