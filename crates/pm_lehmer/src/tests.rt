@@ -102,17 +102,17 @@ fn all_codes_of_six(rt: HostRuntime) -> Result<(), Fail> {
     Ok(())
 }
 
-// The numbers below a million in a scattered order.
+// The numbers below a hundred thousand in a scattered order.
 fn scattered(alloc: Global) -> Result<Vec<u32>, AllocError>
-    ensures { IfOk result (λ v. length v.items ≡ 1000000) }
+    ensures { IfOk result (λ v. length v.items ≡ 100000) }
 {
-    (0..1_000_000u64)
-        .map(|k| (k.wrapping_mul(7919) % 1_000_000) as u32)
+    (0..100_000u64)
+        .map(|k| (k.wrapping_mul(7919) % 100_000) as u32)
         .collect(alloc)
 }
 
 #[test]
-fn a_million_entries(rt: HostRuntime) -> Result<(), Fail> {
+fn many_entries(rt: HostRuntime) -> Result<(), Fail> {
     let entries = scattered(rt.alloc())?;
     let coded = code(rt.alloc(), &entries)?;
     let arrangement = arrange(rt.alloc(), &coded)?;
