@@ -71,14 +71,14 @@ turned-round start front word start_within within =
     let long : length (drop start word) ≡ length word - start = length-drop start word in
     let fronts : take front (take start word) ≡ take front word = take-take front start word within in
     let is : height (turned start word) ((length word - start) + front) ≡ sum_of (drop start word) +ℤ height word front =
-      height-is (turned start word) ((length word - start) + front)
-        ∙ ap (λ n. sum_of (take (n + front) (drop start word ++ take start word))) (sym long)
-        ∙ ap sum_of (take_past front (drop start word) (take start word))
-        ∙ sum_of-append (drop start word) (take front (take start word))
-        ∙ ap (λ t. sum_of (drop start word) +ℤ sum_of t) fronts
-        ∙ ap (λ h. sum_of (drop start word) +ℤ h) (sym (height-is word front)) in
+    height-is (turned start word) ((length word - start) + front)
+    ∙ ap (λ n. sum_of (take (n + front) (drop start word ++ take start word))) (sym long)
+    ∙ ap sum_of (take_past front (drop start word) (take start word))
+    ∙ sum_of-append (drop start word) (take front (take start word))
+    ∙ ap (λ t. sum_of (drop start word) +ℤ sum_of t) fronts
+    ∙ ap (λ h. sum_of (drop start word) +ℤ h) (sym (height-is word front)) in
     let whole : sum_of word ≡ height word start +ℤ sum_of (drop start word) =
-      ap sum_of (sym (take-append-drop start word)) ∙ sum_of-append (take start word) (drop start word) ∙ ap (λ h. h +ℤ sum_of (drop start word)) (sym (height-is word start)) in
+    ap sum_of (sym (take-append-drop start word)) ∙ sum_of-append (take start word) (drop start word) ∙ ap (λ h. h +ℤ sum_of (drop start word)) (sym (height-is word start)) in
     omega (arith, ints, is, whole)
 
 pub length-turned : (start : ℕ) (word : List ℤ) → start ≤ length word → length (turned start word) ≡ length word
@@ -95,26 +95,26 @@ IsGoodStart-from_low goal word start positive sum low = record {
   within = low.within;
   good = record {
     sum =
-      let round = turned-round start start word (omega (arith, low.within)) (omega arith) in
-      let long : (length word - start) + start ≡ length word = omega (arith, low.within) in
-      let whole : height (turned start word) (length word) ≡ sum_of (turned start word) = height-all (turned start word) (length word) (omega (arith, length-turned start word (omega (arith, low.within)))) in
-      omega (arith, ints, round, ap (height (turned start word)) long, whole, sum);
+        let round = turned-round start start word (omega (arith, low.within)) (omega arith) in
+        let long : (length word - start) + start ≡ length word = omega (arith, low.within) in
+        let whole : height (turned start word) (length word) ≡ sum_of (turned start word) = height-all (turned start word) (length word) (omega (arith, length-turned start word (omega (arith, low.within)))) in
+        omega (arith, ints, round, ap (height (turned start word)) long, whole, sum);
     above = λ front inside.
-      let long : length (turned start word) ≡ length word = length-turned start word (omega (arith, low.within)) in
-      let is = height-is (turned start word) front in
-      elim (cases_lt (start + front) (length word)) [
-        inl straight ↦ elim (cases_eq front 0) [
-            inl none ↦
-              let zero_is : height (turned start word) front ≡ pos 0 = ap (height (turned start word)) none ∙ height-none (turned start word) in
-              omega (arith, ints, is, zero_is, positive)
-          | inr some ↦ omega (arith, ints, is, turned-front start front word (omega arith), low.after (start + front) (omega (arith, some)) straight)
+        let long : length (turned start word) ≡ length word = length-turned start word (omega (arith, low.within)) in
+        let is = height-is (turned start word) front in
+        elim (cases_lt (start + front) (length word)) [
+          | inl straight ↦ elim (cases_eq front 0) [
+            | inl none ↦
+                let zero_is : height (turned start word) front ≡ pos 0 = ap (height (turned start word)) none ∙ height-none (turned start word) in
+                omega (arith, ints, is, zero_is, positive)
+            | inr some ↦ omega (arith, ints, is, turned-front start front word (omega arith), low.after (start + front) (omega (arith, some)) straight)
           ]
-      | inr past ↦
-          let split : (length word - start) + (front - (length word - start)) ≡ front = omega (arith, low.within) in
-          let round = turned-round start (front - (length word - start)) word (omega (arith, low.within)) (omega (arith, long, inside)) in
-          omega (arith, ints, is, round, ap (height (turned start word)) split, sum, low.before (front - (length word - start)) (omega (arith, long, inside, low.within)))
-      ]
-  }
+          | inr past ↦
+              let split : (length word - start) + (front - (length word - start)) ≡ front = omega (arith, low.within) in
+              let round = turned-round start (front - (length word - start)) word (omega (arith, low.within)) (omega (arith, long, inside)) in
+              omega (arith, ints, is, round, ap (height (turned start word)) split, sum, low.before (front - (length word - start)) (omega (arith, long, inside, low.within)))
+        ];
+  };
 }
 
 pub IsLow-from_good : (goal : ℕ) (word : List ℤ) (start : ℕ) → sum_of word ≡ neg_ℤ (pos goal) → IsGoodStart goal word start → IsLow goal word start
@@ -123,11 +123,11 @@ IsLow-from_good goal word start sum good_start =
     record {
       within = good_start.within;
       before = λ place earlier.
-        let round = turned-round start place word (omega (arith, good_start.within)) (omega arith) in
-        omega (arith, ints, round, sum, height-is (turned start word) ((length word - start) + place), good_start.good.above ((length word - start) + place) (omega (arith, long, good_start.within, earlier)));
+          let round = turned-round start place word (omega (arith, good_start.within)) (omega arith) in
+          omega (arith, ints, round, sum, height-is (turned start word) ((length word - start) + place), good_start.good.above ((length word - start) + place) (omega (arith, long, good_start.within, earlier)));
       after = λ place later inside.
-        let e : start + (place - start) ≡ place = omega arith in
-        omega (arith, ints, turned-front start (place - start) word (omega arith), ap (height word) e, height-is (turned start word) (place - start), good_start.good.above (place - start) (omega (arith, long)))
+          let e : start + (place - start) ≡ place = omega arith in
+          omega (arith, ints, turned-front start (place - start) word (omega arith), ap (height word) e, height-is (turned start word) (place - start), good_start.good.above (place - start) (omega (arith, long)));
     }
 
 -- the sum of a front, with the bounds by which it fits
@@ -139,12 +139,12 @@ pub record IsSummedTo (word : List ℤ) (front : ℕ) (sum : ℤ) : Type 0 where
 pub IsSummedTo-none : (word : List ℤ) → IsSummedTo word 0 (pos 0)
 IsSummedTo-none word = record { is = sym (height-none word); least = omega (arith, ints); most = omega (arith, ints) }
 
-pub IsSummedTo-more : (word : List ℤ) (front : ℕ) (sum after : ℤ) → IsSummedTo word front sum → IsWord word → front < length word → get_or word front (pos 0) ≤ℤ pos 2147483647
-  → after ≡ sum +ℤ get_or word front (pos 0) → IsSummedTo word (front + 1) after
-IsSummedTo-more word front sum after summed is_word inside fits is = record {
+pub IsSummedTo-more : (word : List ℤ) (front : ℕ) (sum after : ℤ) → IsSummedTo word front sum → negsuc 0 ≤ℤ get_or word front (pos 0) → front < length word → get_or word front (pos 0) ≤ℤ pos 2147483647
+    → after ≡ sum +ℤ get_or word front (pos 0) → IsSummedTo word (front + 1) after
+IsSummedTo-more word front sum after summed at_least inside fits is = record {
   is = omega (arith, ints, summed.is, height-more word front inside, is);
-  least = omega (arith, ints, summed.least, is_word.least front inside, is);
-  most = omega (arith, ints, summed.most, fits, is)
+  least = omega (arith, ints, summed.least, at_least, is);
+  most = omega (arith, ints, summed.most, fits, is);
 }
 
 pub height-falls : (word : List ℤ) (front : ℕ) → IsWord word → front < length word → height word front ≤ℤ (height word (front + 1) +ℤ pos 1)
@@ -162,25 +162,25 @@ IsLowestTo-none word filled = record { below = λ place inside. absurd (omega ar
 pub IsLowestTo-lower : (word : List ℤ) (front : ℕ) (lowest sum : ℤ) → IsLowestTo word front lowest → IsSummedTo word front sum → front < length word → sum <ℤ lowest → IsLowestTo word (front + 1) sum
 IsLowestTo-lower word front lowest sum lowest_to summed inside lower = record {
   below = λ place place_inside. elim (cases_eq place front) [
-      inl here ↦ omega (arith, ints, ap (height word) here, summed.is)
+    | inl here ↦ omega (arith, ints, ap (height word) here, summed.is)
     | inr other ↦ omega (arith, ints, lowest_to.below place (omega (arith, other)), lower)
-    ];
-  reached = (front, inside, sym summed.is)
+  ];
+  reached = (front, inside, sym summed.is);
 }
 
 pub IsLowestTo-same : (word : List ℤ) (front : ℕ) (lowest sum : ℤ) → IsLowestTo word front lowest → IsSummedTo word front sum → lowest ≤ℤ sum → IsLowestTo word (front + 1) lowest
 IsLowestTo-same word front lowest sum lowest_to summed higher = record {
   below = λ place place_inside. elim (cases_eq place front) [
-      inl here ↦ omega (arith, ints, ap (height word) here, summed.is, higher)
+    | inl here ↦ omega (arith, ints, ap (height word) here, summed.is, higher)
     | inr other ↦ lowest_to.below place (omega (arith, other))
-    ];
-  reached = lowest_to.reached
+  ];
+  reached = lowest_to.reached;
 }
 
 pub IsLowestTo-all : (word : List ℤ) (front : ℕ) (lowest : ℤ) → front ≡ length word → IsLowestTo word front lowest → IsLowest word lowest
 IsLowestTo-all word front lowest all lowest_to = record {
   below = λ place inside. omega (arith, ints, height-is word place, lowest_to.below place (omega arith));
-  reached = (lowest_to.reached.0, lowest_to.reached.1, sym (height-is word lowest_to.reached.0) ∙ lowest_to.reached.2)
+  reached = (lowest_to.reached.0, lowest_to.reached.1, sym (height-is word lowest_to.reached.0) ∙ lowest_to.reached.2);
 }
 
 height-least : (word : List ℤ) (front : ℕ) → IsWord word → front ≤ length word → neg_ℤ (pos front) ≤ℤ height word front
@@ -200,7 +200,7 @@ IsLowest-small word lowest is_word is_lowest =
     let at : sum_of (take is_lowest.reached.0 word) ≡ lowest = is_lowest.reached.2 in
     record {
       least = omega (arith, ints, height-least word is_lowest.reached.0 is_word (omega arith), height-is word is_lowest.reached.0, at);
-      most = omega (arith, ints, is_lowest.below 0 (omega arith), height-is word 0, height-none word)
+      most = omega (arith, ints, is_lowest.below 0 (omega arith), height-is word 0, height-none word);
     }
 
 -- the lowest height is so low that the goal above it is 1 at most
@@ -229,27 +229,27 @@ letter_most : (letter : ℤ) → SFits w32 letter → letter ≤ℤ pos 21474836
 letter_most letter fits = omega (arith, ints)
 
 -- the sum that the program has fits, so it is the sum
-pub IsSummedTo-step : (word : List ℤ) (front bits : ℕ) (read : ℤ) → IsSummedTo word front (to_z w64 bits) → IsWord word → front < length word → length word < 4294967296
-  → SFits w32 (get_or word front (pos 0)) → read ≡ to_z w32 (of_z w32 (get_or word front (pos 0)))
-  → IsSummedTo word (front + 1) (to_z w64 (of_z w64 (to_z w64 bits +ℤ to_z w64 (of_z w64 read))))
-IsSummedTo-step word front bits read summed is_word inside few fits is =
+pub IsSummedTo-step : (word : List ℤ) (front bits : ℕ) (read : ℤ) → IsSummedTo word front (to_z w64 bits) → negsuc 0 ≤ℤ get_or word front (pos 0) → front < length word → length word < 4294967296
+    → SFits w32 (get_or word front (pos 0)) → read ≡ to_z w32 (of_z w32 (get_or word front (pos 0)))
+    → IsSummedTo word (front + 1) (to_z w64 (of_z w64 (to_z w64 bits +ℤ to_z w64 (of_z w64 read))))
+IsSummedTo-step word front bits read summed at_least inside few fits is =
     let letter : read ≡ get_or word front (pos 0) = is ∙ to_z-of_z w32 (get_or word front (pos 0)) fits in
     let most = letter_most (get_or word front (pos 0)) fits in
-    let read_fits : SFits w64 read = fits_between read (omega (arith, ints, letter, is_word.least front inside)) (omega (arith, ints, letter, most)) in
+    let read_fits : SFits w64 read = fits_between read (omega (arith, ints, letter, at_least)) (omega (arith, ints, letter, most)) in
     let same : to_z w64 (of_z w64 read) ≡ get_or word front (pos 0) = to_z-of_z w64 read read_fits ∙ letter in
     let sum : to_z w64 bits +ℤ to_z w64 (of_z w64 read) ≡ to_z w64 bits +ℤ get_or word front (pos 0) = ap (λ r. to_z w64 bits +ℤ r) same in
-    let sum_fits : SFits w64 (to_z w64 bits +ℤ get_or word front (pos 0)) = fits_between (to_z w64 bits +ℤ get_or word front (pos 0)) (omega (arith, ints, summed.least, is_word.least front inside)) (omega (arith, ints, summed.most, most)) in
-    IsSummedTo-more word front (to_z w64 bits) _ summed is_word inside most
-      (ap (λ s. to_z w64 (of_z w64 s)) sum ∙ to_z-of_z w64 (to_z w64 bits +ℤ get_or word front (pos 0)) sum_fits)
+    let sum_fits : SFits w64 (to_z w64 bits +ℤ get_or word front (pos 0)) = fits_between (to_z w64 bits +ℤ get_or word front (pos 0)) (omega (arith, ints, summed.least, at_least)) (omega (arith, ints, summed.most, most)) in
+    IsSummedTo-more word front (to_z w64 bits) _ summed at_least inside most
+    (ap (λ s. to_z w64 (of_z w64 s)) sum ∙ to_z-of_z w64 (to_z w64 bits +ℤ get_or word front (pos 0)) sum_fits)
 
 -- the bound that the program has is the lowest sum and the goal
 pub bound_is : (word : List ℤ) (goal : ℕ) (lowest read : ℤ) → IsSmall word lowest → length word < 4294967296 → goal < 4294967296 → read ≡ pos goal
-  → to_z w64 (of_z w64 (to_z w64 (of_z w64 lowest) +ℤ to_z w64 (of_z w64 read))) ≡ lowest +ℤ pos goal
+    → to_z w64 (of_z w64 (to_z w64 (of_z w64 lowest) +ℤ to_z w64 (of_z w64 read))) ≡ lowest +ℤ pos goal
 bound_is word goal lowest read small few goal_fits is =
     let lowest_fits : SFits w64 lowest = fits_between lowest (omega (arith, ints, small.least)) (omega (arith, ints, small.most)) in
     let read_fits : SFits w64 read = fits_between read (omega (arith, ints, is)) (omega (arith, ints, is)) in
     let sum_fits : SFits w64 (lowest +ℤ read) = fits_between (lowest +ℤ read) (omega (arith, ints, small.least, is)) (omega (arith, ints, small.most, is)) in
     ap (λ a. to_z w64 (of_z w64 (a +ℤ to_z w64 (of_z w64 read)))) (to_z-of_z w64 lowest lowest_fits)
-      ∙ ap (λ b. to_z w64 (of_z w64 (lowest +ℤ b))) (to_z-of_z w64 read read_fits)
-      ∙ to_z-of_z w64 (lowest +ℤ read) sum_fits
-      ∙ ap (λ b. lowest +ℤ b) is
+    ∙ ap (λ b. to_z w64 (of_z w64 (lowest +ℤ b))) (to_z-of_z w64 read read_fits)
+    ∙ to_z-of_z w64 (lowest +ℤ read) sum_fits
+    ∙ ap (λ b. lowest +ℤ b) is

@@ -68,15 +68,24 @@ IsWord-words_of : (trees : Trees) (rest : List ℤ) → IsWord rest → IsWord (
 IsWord-words_of none rest is_word = is_word
 IsWord-words_of (tree subtrees others) rest is_word =
     IsWord-cons (letter_of (how_many subtrees)) ((words_of subtrees ++ words_of others) ++ rest) (omega (arith, ints, letter_of-is (how_many subtrees)))
-      (let P : List ℤ → Type 0 = IsWord in subst P (sym (append_assoc (words_of subtrees) (words_of others) rest)) (IsWord-words_of subtrees (words_of others ++ rest) (IsWord-words_of others rest is_word)))
+    (let P : List ℤ → Type 0 = IsWord in subst P (sym (append_assoc (words_of subtrees) (words_of others) rest)) (IsWord-words_of subtrees (words_of others ++ rest) (IsWord-words_of others rest is_word)))
 
 HasLowEnds-words_of : (trees : Trees) (rest : List ℤ) → HasLowEnds rest → HasLowEnds (words_of trees ++ rest)
 HasLowEnds-words_of none rest ends = ends
 HasLowEnds-words_of (tree subtrees others) rest ends =
     HasLowEnds-cons (letter_of (how_many subtrees)) ((words_of subtrees ++ words_of others) ++ rest)
-      (omega (arith, ints, sum_of-cons (letter_of (how_many subtrees)) ((words_of subtrees ++ words_of others) ++ rest), sum_of-append (words_of subtrees ++ words_of others) rest, sum_of-append (words_of subtrees) (words_of others),
-        letter_of-is (how_many subtrees), sum_of-words_of subtrees, sum_of-words_of others, sum_of-ends rest ends))
-      (let P : List ℤ → Type 0 = HasLowEnds in subst P (sym (append_assoc (words_of subtrees) (words_of others) rest)) (HasLowEnds-words_of subtrees (words_of others ++ rest) (HasLowEnds-words_of others rest ends)))
+    (omega (
+      arith,
+      ints,
+      sum_of-cons (letter_of (how_many subtrees)) ((words_of subtrees ++ words_of others) ++ rest),
+      sum_of-append (words_of subtrees ++ words_of others) rest,
+      sum_of-append (words_of subtrees) (words_of others),
+      letter_of-is (how_many subtrees),
+      sum_of-words_of subtrees,
+      sum_of-words_of others,
+      sum_of-ends rest ends,
+    ))
+    (let P : List ℤ → Type 0 = HasLowEnds in subst P (sym (append_assoc (words_of subtrees) (words_of others) rest)) (HasLowEnds-words_of subtrees (words_of others ++ rest) (HasLowEnds-words_of others rest ends)))
 
 sum_of-split : (word : List ℤ) (front : ℕ) → sum_of word ≡ sum_of (take front word) +ℤ sum_of (drop front word)
 sum_of-split word front = ap sum_of (sym (take-append-drop front word)) ∙ sum_of-append (take front word) (drop front word)
@@ -118,7 +127,7 @@ words_of-parts zero trees = refl
 words_of-parts (suc many) none = refl
 words_of-parts (suc many) (tree subtrees others) =
     ap (λ w. letter_of (how_many subtrees) ∷ w)
-      (append_assoc (words_of subtrees) (words_of (first_trees many others)) (words_of (trees_after many others)) ∙ ap (λ w. words_of subtrees ++ w) (words_of-parts many others))
+    (append_assoc (words_of subtrees) (words_of (first_trees many others)) (words_of (trees_after many others)) ∙ ap (λ w. words_of subtrees ++ w) (words_of-parts many others))
 
 letter_of-children_of : (letter : ℤ) → negsuc 0 ≤ℤ letter → letter_of (children_of letter) ≡ letter
 letter_of-children_of (pos more) least = refl
@@ -138,9 +147,9 @@ is_read (letter ∷ later) is_word ends =
     let first = how_many-first_trees (children_of letter) (trees_of later) within in
     record {
       words = ap (λ n. letter_of n ∷ (words_of (first_trees (children_of letter) (trees_of later)) ++ words_of (trees_after (children_of letter) (trees_of later)))) first
-        ∙ ap (λ l. l ∷ (words_of (first_trees (children_of letter) (trees_of later)) ++ words_of (trees_after (children_of letter) (trees_of later)))) (letter_of-children_of letter least)
-        ∙ ap (λ w. letter ∷ w) (words_of-parts (children_of letter) (trees_of later) ∙ rest.words);
-      many = omega (arith, ints, sum, children_of-is letter least, rest.many, how_many-trees_after (children_of letter) (trees_of later) within)
+          ∙ ap (λ l. l ∷ (words_of (first_trees (children_of letter) (trees_of later)) ++ words_of (trees_after (children_of letter) (trees_of later)))) (letter_of-children_of letter least)
+          ∙ ap (λ w. letter ∷ w) (words_of-parts (children_of letter) (trees_of later) ∙ rest.words);
+      many = omega (arith, ints, sum, children_of-is letter least, rest.many, how_many-trees_after (children_of letter) (trees_of later) within);
     }
 
 word_of-first : (trees : Trees) → how_many trees ≡ 1 → word_of (subtrees_of trees) ≡ words_of trees

@@ -39,7 +39,7 @@ HasRecords-none word bound starts low none = rw none (record {
   good = λ place inside. absurd (omega arith);
   all = λ start inside is_record. absurd (omega arith);
   none_yet = λ past. refl;
-  as_many = λ under. omega (arith, ints)
+  as_many = λ under. omega (arith, ints);
 })
 
 -- a sum that is below the least is one less
@@ -55,16 +55,16 @@ before_front word front least sum below summed lower earlier inside = omega (ari
 
 lower_below : (word : List ℤ) (front : ℕ) (least sum : ℤ) → ((place : ℕ) → place < front → least ≤ℤ height word place) → IsSummedTo word front sum → sum <ℤ least → (place : ℕ) → place < front + 1 → sum ≤ℤ height word place
 lower_below word front least sum below summed lower place inside = elim (cases_eq place front) [
-    inl here ↦ omega (arith, ints, ap (height word) here, summed.is)
+  | inl here ↦ omega (arith, ints, ap (height word) here, summed.is)
   | inr other ↦ omega (arith, ints, below place (omega (arith, other)), lower)
-  ]
+]
 
 rising-push : (starts : List ℕ) (front : ℕ) → IsStrictlyIncreasing starts → ((place : ℕ) → place < length starts → get_or starts place 0 < front) → IsStrictlyIncreasing (starts ++ front ∷ [])
 rising-push starts front rising inside = λ place place_inside.
     let long : length (starts ++ front ∷ []) ≡ length starts + 1 = length-append starts (front ∷ []) in
     elim (cases_lt (place + 1) (length starts)) [
-      inl old ↦ omega (arith, get_or_append_left starts (front ∷ []) 0 place (omega arith), get_or_append_left starts (front ∷ []) 0 (place + 1) old, rising place old)
-    | inr last ↦ omega (arith, get_or_append_left starts (front ∷ []) 0 place (omega arith), get_or_push starts front 0 (place + 1) (omega arith), inside place (omega arith))
+      | inl old ↦ omega (arith, get_or_append_left starts (front ∷ []) 0 place (omega arith), get_or_append_left starts (front ∷ []) 0 (place + 1) old, rising place old)
+      | inr last ↦ omega (arith, get_or_append_left starts (front ∷ []) 0 place (omega arith), get_or_push starts front 0 (place + 1) (omega arith), inside place (omega arith))
     ]
 
 -- what holds of the old entries and of the new one holds of all
@@ -72,8 +72,8 @@ each-push : (P : ℕ → Type 0) (starts : List ℕ) (front : ℕ) → ((place :
 each-push P starts front old new place inside =
     let long : length (starts ++ front ∷ []) ≡ length starts + 1 = length-append starts (front ∷ []) in
     elim (cases_lt place (length starts)) [
-      inl is_old ↦ subst P (sym (get_or_append_left starts (front ∷ []) 0 place is_old)) (old place is_old)
-    | inr is_new ↦ subst P (sym (get_or_push starts front 0 place (omega arith))) new
+      | inl is_old ↦ subst P (sym (get_or_append_left starts (front ∷ []) 0 place is_old)) (old place is_old)
+      | inr is_new ↦ subst P (sym (get_or_push starts front 0 place (omega arith))) new
     ]
 
 found-push : (starts : List ℕ) (front start : ℕ) → (place : ℕ) × (place < length starts) × (get_or starts place 0 ≡ start) → (place : ℕ) × (place < length (starts ++ front ∷ [])) × (get_or (starts ++ front ∷ []) place 0 ≡ start)
@@ -83,7 +83,7 @@ found-push starts front start found =
 
 -- a new record below the bound
 pub HasRecords-push : (word : List ℤ) (bound : ℤ) (front : ℕ) (least sum : ℤ) (starts : List ℕ) → HasRecords word bound front least starts → IsSummedTo word front sum → IsWord word → front < length word
-  → sum <ℤ least → sum <ℤ bound → HasRecords word bound (front + 1) sum (starts ++ front ∷ [])
+    → sum <ℤ least → sum <ℤ bound → HasRecords word bound (front + 1) sum (starts ++ front ∷ [])
 HasRecords-push word bound front least sum starts has summed is_word inside lower under =
     let less : sum +ℤ pos 1 ≡ least = one_less word front least sum is_word inside has.below has.reached summed lower in
     let new : IsRecord word bound front = record { before = before_front word front least sum has.below summed lower; under = omega (arith, ints, summed.is, under) } in
@@ -96,16 +96,16 @@ HasRecords-push word bound front least sum starts has summed is_word inside lowe
       inside = each-push (λ start. start < front + 1) starts front (λ place place_inside. omega (arith, has.inside place place_inside)) (omega arith);
       good = each-push (IsRecord word bound) starts front has.good new;
       all = λ start start_inside is_record. elim (cases_eq start front) [
-          inl here ↦ (length starts, omega arith, get_or_push starts front 0 (length starts) refl ∙ sym here)
+        | inl here ↦ (length starts, omega arith, get_or_push starts front 0 (length starts) refl ∙ sym here)
         | inr other ↦ found-push starts front start (has.all start (omega (arith, other)) is_record)
-        ];
+      ];
       none_yet = λ past. absurd (omega (arith, ints));
-      as_many = λ under_bound. omega (arith, ints, long, many, less)
+      as_many = λ under_bound. omega (arith, ints, long, many, less);
     }
 
 -- a new least height that is not below the bound
 pub HasRecords-high : (word : List ℤ) (bound : ℤ) (front : ℕ) (least sum : ℤ) (starts : List ℕ) → HasRecords word bound front least starts → IsSummedTo word front sum → IsWord word → front < length word
-  → sum <ℤ least → bound ≤ℤ sum → HasRecords word bound (front + 1) sum starts
+    → sum <ℤ least → bound ≤ℤ sum → HasRecords word bound (front + 1) sum starts
 HasRecords-high word bound front least sum starts has summed is_word inside lower over =
     let none : length starts ≡ 0 = has.none_yet (omega (arith, ints)) in
     record {
@@ -115,11 +115,11 @@ HasRecords-high word bound front least sum starts has summed is_word inside lowe
       inside = λ place place_inside. omega (arith, has.inside place place_inside);
       good = has.good;
       all = λ start start_inside is_record. elim (cases_eq start front) [
-          inl here ↦ absurd (omega (arith, ints, is_record.under, ap (height word) here, summed.is))
+        | inl here ↦ absurd (omega (arith, ints, is_record.under, ap (height word) here, summed.is))
         | inr other ↦ has.all start (omega (arith, other)) is_record
-        ];
+      ];
       none_yet = λ past. none;
-      as_many = λ under_bound. omega (arith, ints, none)
+      as_many = λ under_bound. omega (arith, ints, none);
     }
 
 -- no record: some height before is as low
@@ -134,26 +134,26 @@ IsLeast-more word front least sum (seen_at place earlier is) summed higher = see
 pub HasRecords-same : (word : List ℤ) (bound : ℤ) (front : ℕ) (least sum : ℤ) (starts : List ℕ) → HasRecords word bound front least starts → IsSummedTo word front sum → least ≤ℤ sum → HasRecords word bound (front + 1) least starts
 HasRecords-same word bound front least sum starts has summed higher = record {
   below = λ place place_inside. elim (cases_eq place front) [
-      inl here ↦ omega (arith, ints, ap (height word) here, summed.is)
+    | inl here ↦ omega (arith, ints, ap (height word) here, summed.is)
     | inr other ↦ has.below place (omega (arith, other))
-    ];
+  ];
   reached = IsLeast-more word front least sum has.reached summed higher;
   rising = has.rising;
   inside = λ place place_inside. omega (arith, has.inside place place_inside);
   good = has.good;
   all = λ start start_inside is_record. elim (cases_eq start front) [
-      inl here ↦ let P : ℕ → Type 0 = IsRecord word bound in absurd (not_lower word bound front least sum has.reached summed higher (subst P here is_record))
+    | inl here ↦ let P : ℕ → Type 0 = IsRecord word bound in absurd (not_lower word bound front least sum has.reached summed higher (subst P here is_record))
     | inr other ↦ has.all start (omega (arith, other)) is_record
-    ];
+  ];
   none_yet = has.none_yet;
-  as_many = has.as_many
+  as_many = has.as_many;
 }
 
 low_from_record : (word : List ℤ) (goal : ℕ) (lowest bound : ℤ) (start : ℕ) → IsLowest word lowest → bound ≡ lowest +ℤ pos goal → start < length word → IsRecord word bound start → IsLow goal word start
 low_from_record word goal lowest bound start is_lowest bound_is inside is_record = record {
   within = inside;
   before = is_record.before;
-  after = λ place later place_inside. omega (arith, ints, is_record.under, bound_is, is_lowest.below place place_inside, height-is word place)
+  after = λ place later place_inside. omega (arith, ints, is_record.under, bound_is, is_lowest.below place place_inside, height-is word place);
 }
 
 record_from_low : (word : List ℤ) (goal : ℕ) (lowest bound : ℤ) (start : ℕ) → 0 < goal → IsLowest word lowest → bound ≡ lowest +ℤ pos goal → IsLow goal word start → IsRecord word bound start
@@ -163,12 +163,12 @@ record_from_low word goal lowest bound start positive is_lowest bound_is low =
     record {
       before = low.before;
       under = elim (cases_lt start at) [
-          inl later ↦ omega (arith, ints, low.after at later is_lowest.reached.1, at_is, bound_is)
+        | inl later ↦ omega (arith, ints, low.after at later is_lowest.reached.1, at_is, bound_is)
         | inr not_later ↦ elim (cases_eq start at) [
-            inl here ↦ omega (arith, ints, ap (height word) here, at_is, bound_is)
+          | inl here ↦ omega (arith, ints, ap (height word) here, at_is, bound_is)
           | inr other ↦ absurd (omega (arith, ints, low.before at (omega (arith, other)), at_is, is_lowest.below start low.within, height-is word start))
-          ]
         ]
+      ];
     }
 
 least_is_lowest : (word : List ℤ) (front : ℕ) (lowest least : ℤ) → front ≡ length word → 0 < front → IsLowest word lowest → ((place : ℕ) → place < front → least ≤ℤ height word place) → IsLeast word front least → least ≡ lowest
@@ -181,7 +181,7 @@ least_is_lowest word front lowest least whole filled is_lowest below (seen_at pl
 
 -- at the end the records are the good starts
 pub HasRecords-starts : (word : List ℤ) (goal front : ℕ) (lowest bound least : ℤ) (starts : List ℕ) → 0 < goal → sum_of word ≡ neg_ℤ (pos goal) → 0 < length word → front ≡ length word → IsLowest word lowest → bound ≡ lowest +ℤ pos goal
-  → HasRecords word bound front least starts → IsGoodStarts goal word starts
+    → HasRecords word bound front least starts → IsGoodStarts goal word starts
 HasRecords-starts word goal front lowest bound least starts positive sum filled whole is_lowest bound_is has =
     let same : least ≡ lowest = least_is_lowest word front lowest least whole (omega arith) is_lowest has.below has.reached in
     record {
@@ -189,25 +189,24 @@ HasRecords-starts word goal front lowest bound least starts positive sum filled 
       rising = has.rising;
       good = λ place inside. IsGoodStart-from_low goal word (get_or starts place 0) positive sum (low_from_record word goal lowest bound (get_or starts place 0) is_lowest bound_is (omega (arith, has.inside place inside)) (has.good place inside));
       all = λ start is_good.
-        let low : IsLow goal word start = IsLow-from_good goal word start sum is_good in
-        has.all start (omega (arith, low.within)) (record_from_low word goal lowest bound start positive is_lowest bound_is low)
+          let low : IsLow goal word start = IsLow-from_good goal word start sum is_good in
+          has.all start (omega (arith, low.within)) (record_from_low word goal lowest bound start positive is_lowest bound_is low);
     }
-
 
 -- an entry of a turned list
 pub get_or-turned : (start place : ℕ) (entries : List ℕ) → start < length entries → place < length entries → get_or (turned start entries) place 0 ≡ get_or entries ((start + place) % length entries) 0
 get_or-turned start place entries within inside =
     let long : length (drop start entries) ≡ length entries - start = length-drop start entries in
     elim (cases_lt (start + place) (length entries)) [
-      inl straight ↦
-        get_or_append_left (drop start entries) (take start entries) 0 place (omega (arith, long))
+      | inl straight ↦
+          get_or_append_left (drop start entries) (take start entries) 0 place (omega (arith, long))
           ∙ get_or-drop start entries place 0
           ∙ ap (λ n. get_or entries n 0) (sym (mod-eq_of_lt straight))
-    | inr past ↦
-        let back : start + place ≡ (place - (length entries - start)) + length entries = omega arith in
-        let turn : (start + place) % length entries ≡ place - (length entries - start) =
+      | inr past ↦
+          let back : start + place ≡ (place - (length entries - start)) + length entries = omega arith in
+          let turn : (start + place) % length entries ≡ place - (length entries - start) =
           ap (λ n. n % length entries) back ∙ add-mod_right (place - (length entries - start)) (length entries) ∙ mod-eq_of_lt (omega arith) in
-        get_or-append_right (drop start entries) (take start entries) (length entries - start) place 0 long (omega arith)
+          get_or-append_right (drop start entries) (take start entries) (length entries - start) place 0 long (omega arith)
           ∙ get_or-take start entries (place - (length entries - start)) 0 (omega arith)
           ∙ ap (λ n. get_or entries n 0) (sym turn)
     ]

@@ -41,13 +41,13 @@ trees_of-append : (trees : Trees) (rest : List ℤ) → trees_of (words_of trees
 trees_of-append none rest = sym (joined-first (trees_of rest))
 trees_of-append (tree subtrees others) rest =
     let later : trees_of ((words_of subtrees ++ words_of others) ++ rest) ≡ joined subtrees (joined others (trees_of rest)) =
-      ap trees_of (append_assoc (words_of subtrees) (words_of others) rest) ∙ trees_of-append subtrees (words_of others ++ rest) ∙ ap (joined subtrees) (trees_of-append others rest) in
+    ap trees_of (append_assoc (words_of subtrees) (words_of others) rest) ∙ trees_of-append subtrees (words_of others ++ rest) ∙ ap (joined subtrees) (trees_of-append others rest) in
     let many = children_of-letter_of (how_many subtrees) in
     ap (λ n. tree (first_trees n (trees_of ((words_of subtrees ++ words_of others) ++ rest))) (trees_after n (trees_of ((words_of subtrees ++ words_of others) ++ rest)))) many
-      ∙ ap (λ t. tree (first_trees (how_many subtrees) t) (trees_after (how_many subtrees) t)) later
-      ∙ ap (λ t. tree t (trees_after (how_many subtrees) (joined subtrees (joined others (trees_of rest))))) (first_trees-joined subtrees (joined others (trees_of rest)))
-      ∙ ap (tree subtrees) (trees_after-joined subtrees (joined others (trees_of rest)))
-      ∙ sym (joined-tree subtrees others (trees_of rest))
+    ∙ ap (λ t. tree (first_trees (how_many subtrees) t) (trees_after (how_many subtrees) t)) later
+    ∙ ap (λ t. tree t (trees_after (how_many subtrees) (joined subtrees (joined others (trees_of rest))))) (first_trees-joined subtrees (joined others (trees_of rest)))
+    ∙ ap (tree subtrees) (trees_after-joined subtrees (joined others (trees_of rest)))
+    ∙ sym (joined-tree subtrees others (trees_of rest))
 
 pub trees_of-words_of : (trees : Trees) → trees_of (words_of trees) ≡ trees
 trees_of-words_of trees = ap trees_of (sym (append-nil (words_of trees))) ∙ trees_of-append trees [] ∙ joined-none trees

@@ -6,3 +6,6 @@ mod starts;
 
 pub use plane::{PlaneTree, tree_of_word, trees_are_words, word_of_tree};
 pub use starts::{good_starts, rotate};
+
+#[cfg(test)]
+mod tests;

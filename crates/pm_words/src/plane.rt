@@ -58,5 +58,4 @@ pub fn word_of_tree(alloc: Global, tree: &PlaneTree) -> Result<Vec<i32>, AllocEr
 /// good for 1 is that of a tree.
 pub fn trees_are_words()
     ensures { TreesAreWords }
-{
-}
+{}

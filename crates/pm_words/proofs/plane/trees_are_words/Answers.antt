@@ -7,5 +7,5 @@ returns c = record {
   is_word = IsWord-word_of;
   is_good = IsGood-word_of;
   only = word_of-injective;
-  has_tree = λ word is_word good. (subtrees_of (trees_of word), word_of-subtrees_of word is_word good)
+  has_tree = λ word is_word good. (subtrees_of (trees_of word), word_of-subtrees_of word is_word good);
 }

@@ -18,19 +18,20 @@ fronts-init c =
 
 pub fronts-preserved : goal.fronts-preserved
 fronts-preserved c =
-    let fits : SFits w32 (get_or c.args.word.now c.fronts.start (pos 0)) = search rules in
-    (IsSummedTo-step _ _ _ _ c.fronts.invariant.0 c.requires.letters c.fronts-test.true c.requires.few fits c.from-sum.ensures,
-     elim c.if-sum-least.branch [
-       then-sum-least+then-sum-bound+in_ok-push w ↦
-         rw (w.starts-is, w.least-is, w.in_ok-push.ensures.items)
-           (HasRecords-push _ _ _ _ _ _ c.fronts.invariant.1 c.fronts.invariant.0 c.requires.letters c.fronts-test.true (less_from_test _ _ w.if-sum-least.true) (less_from_test _ _ w.if-sum-bound.true))
-     | then-sum-least+else-sum-bound w ↦
-         rw (w.starts-is, w.least-is)
-           (HasRecords-high _ _ _ _ _ _ c.fronts.invariant.1 c.fronts.invariant.0 c.requires.letters c.fronts-test.true (less_from_test _ _ w.if-sum-least.true) (not_less_from_test _ _ w.if-sum-bound.false))
-     | else-sum-least w ↦
-         rw (w.starts-is, w.least-is)
-           (HasRecords-same _ _ _ _ _ _ c.fronts.invariant.1 c.fronts.invariant.0 (not_less_from_test _ _ w.if-sum-least.false))
-     ])
+    let fits : SFits w32 (get_or c.args.word.now c.fronts.start (pos 0)) = search rules in (
+      IsSummedTo-step _ _ _ _ c.fronts.invariant.0 (c.requires.letters.least _ c.fronts-test.true) c.fronts-test.true c.requires.few fits c.from-sum.ensures,
+      elim c.if-sum-least.branch [
+        | then-sum-least+then-sum-bound+in_ok-push w ↦
+            rw (w.starts-is, w.least-is, w.in_ok-push.ensures.items)
+            (HasRecords-push _ _ _ _ _ _ c.fronts.invariant.1 c.fronts.invariant.0 c.requires.letters c.fronts-test.true (less_from_test _ _ w.if-sum-least.true) (less_from_test _ _ w.if-sum-bound.true))
+        | then-sum-least+else-sum-bound w ↦
+            rw (w.starts-is, w.least-is)
+            (HasRecords-high _ _ _ _ _ _ c.fronts.invariant.1 c.fronts.invariant.0 c.requires.letters c.fronts-test.true (less_from_test _ _ w.if-sum-least.true) (not_less_from_test _ _ w.if-sum-bound.false))
+        | else-sum-least w ↦
+            rw (w.starts-is, w.least-is)
+            (HasRecords-same _ _ _ _ _ _ c.fronts.invariant.1 c.fronts.invariant.0 (not_less_from_test _ _ w.if-sum-least.false))
+      ],
+    )
 
 pub returns : goal.returns
 returns c =
