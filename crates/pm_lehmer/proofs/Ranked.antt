@@ -1,5 +1,5 @@
 -- Counts of ranks: the rank of an entry is how many entries are smaller than it.
-use Rattle.std.proofs.Common.{◌≡◌, ◌≢◌, ℕ, zero, suc, ◌+◌, ◌-◌, ◌<◌, ◌≤◌, min, List, [], ◌∷◌, length, get_or, map, drop, refl, ap, sym, ◌∙◌, arith, inl, inr}
+use Rattle.std.proofs.Common.{◌≡◌, ℕ, zero, suc, ◌+◌, ◌<◌, ◌≤◌, min, List, [], ◌∷◌, length, get_or, map, drop, refl, ap, sym, ◌∙◌, arith, inl, inr}
 use Rattle.std.proofs.Math.ListN.{set}
 use Rattle.std.proofs.lemmas.Bool.{cases_lt}
 use Rattle.std.proofs.lemmas.List.{drop_more, drop_all, drop-set, get_or-drop, length-drop, length-map}
@@ -9,15 +9,6 @@ use Rattle.pm_lehmer.specs.Lehmer.{count_below, code_of}
 use Rattle.pm_lehmer.specs.Counted.{start_of, IsCounted, IsOneMore}
 use Rattle.pm_lehmer.proofs.CountBelow.{count_below-nil, count_below-smaller, count_below-other, count_below-le-length, count_below-mono, count_below-stands}
 use Rattle.pm_lehmer.proofs.Arranged.{count_below-zero}
-use Rattle.pm_lehmer.proofs.Halving.{IsPart-whole, start_of-within}
-
--- counts are of a function only up to their size
-pub IsCounted-same : (counts : List ℕ) (first second : ℕ → ℕ) → ((number : ℕ) → number < length counts → first number ≡ second number) → IsCounted counts first → IsCounted counts second
-IsCounted-same counts first second same counted = record {
-  at_middle = λ number positive inside.
-      let within = start_of-within (length counts) 0 (length counts) number (IsPart-whole (length counts)) positive inside in
-      omega (arith, same number inside, same (start_of (length counts) number) (omega (arith, within.up_to)), counted.at_middle number positive inside);
-}
 
 -- where all numbers that pass come first, so many are below
 pub count_below-split : (number split : ℕ) (entries : List ℕ) → split ≤ length entries
@@ -144,17 +135,8 @@ IsCodedFrom-step entries counts after code place rank smaller coded_from inside 
 abbrev pub first_below : ℕ → ℕ → ℕ
 first_below size number = min number size
 
-pub first_below-none : (counts : List ℕ) → ((place : ℕ) → place < length counts → get_or counts place 0 ≡ 0) → IsCounted counts (first_below 0)
-first_below-none counts zeros = record { at_middle = λ number positive inside. omega (arith, zeros number inside) }
-
 pub first_below-more : (size : ℕ) → IsOneMore size (first_below size) (first_below (size + 1))
 first_below-more size = record { same = λ place low. omega arith; raised = λ place high. omega arith }
-
-pub first_below-room : (counts : List ℕ) (size : ℕ) → IsCounted counts (first_below size) → length counts < 4294967296 → (number : ℕ) → 0 < number → number < length counts → get_or counts number 0 + 1 < 4294967296
-first_below-room counts size counted few number positive inside = omega (arith, counted.at_middle number positive inside)
-
-pub first_below-all : (counts : List ℕ) (size : ℕ) → size ≡ length counts → IsCounted counts (first_below size) → IsCounted counts (λ number. number)
-first_below-all counts size is counted = IsCounted-same counts (first_below size) (λ number. number) (λ number inside. omega arith) counted
 
 -- another order counts alike
 pub count_below-IsPermutation : (number : ℕ) (first second : List ℕ) → IsPermutation first second → count_below number second ≡ count_below number first

@@ -1,14 +1,14 @@
 -- The sums of a word's fronts, and what they say of its good starts.
-use Rattle.std.proofs.Common.{◌≡◌, ◌≢◌, ℕ, zero, suc, ◌+◌, ◌-◌, ◌*◌, ◌<◌, ◌≤◌, ◌⊎◌, List, [], ◌∷◌, ◌++◌, length, get_or, take, drop, refl, ap, sym, ◌∙◌, arith, true, false, inl, inr, append_assoc, length-append, fold, pos, negsuc, ◌+ℤ◌, ◌-ℤ◌, neg_ℤ, ◌≤ℤ◌, ℤ}
+use Rattle.std.proofs.Common.{◌≡◌, ℕ, zero, suc, ◌+◌, ◌-◌, ◌*◌, ◌<◌, ◌≤◌, List, [], ◌∷◌, ◌++◌, length, get_or, take, drop, refl, ap, sym, ◌∙◌, arith, true, false, inl, inr, length-append, fold, pos, negsuc, ◌+ℤ◌, neg_ℤ, ◌≤ℤ◌, ℤ}
 use Rattle.std.specs.Prelude.{◌<ℤ◌}
 use Rattle.std.proofs.lemmas.Int.{ints, to_z-of_z}
 use mir.Val.{to_z, of_z, SFits}
 use mir.Syntax.{w32, w64}
 use lib.Signed.{lt_z}
 use Rattle.std.proofs.lemmas.Bool.{cases_lt, cases_eq}
-use Rattle.std.proofs.lemmas.List.{take-append-le, take-take, take_all, length-take-le, length-drop, length-take, take-append-drop, drop_all, append-nil, take_at}
+use Rattle.std.proofs.lemmas.List.{take-append-le, take-take, take_all, length-take-le, length-drop, take-append-drop}
 use Rattle.std.proofs.lemmas.List.Sums.{fold_more, fold-append}
-use Rattle.pm_words.specs.Word.{sum_of, turned, IsWord, IsGood, IsGoodStart, IsLowest}
+use Rattle.pm_words.specs.Word.{sum_of, turned, IsWord, IsGoodStart, IsLowest}
 
 -- the sum of the front of this length
 unfoldable pub height : List ℤ → ℕ → ℤ

@@ -1,10 +1,9 @@
 -- Plane trees and their words go over into one another.
-use Rattle.std.proofs.Common.{◌≡◌, ◌≢◌, ℕ, zero, suc, ◌+◌, ◌-◌, ◌<◌, ◌≤◌, List, [], ◌∷◌, ◌++◌, length, get_or, take, drop, refl, ap, sym, ◌∙◌, subst, arith, inl, inr, append_assoc, length-append, pos, negsuc, ◌+ℤ◌, ◌-ℤ◌, neg_ℤ, ◌≤ℤ◌, ℤ}
-use Rattle.std.specs.Prelude.{◌<ℤ◌}
+use Rattle.std.proofs.Common.{◌≡◌, ℕ, zero, suc, ◌+◌, ◌<◌, ◌≤◌, List, [], ◌∷◌, ◌++◌, length, get_or, take, drop, refl, ap, sym, ◌∙◌, subst, arith, append_assoc, pos, negsuc, ◌+ℤ◌, ◌≤ℤ◌, ℤ}
 use Rattle.std.proofs.lemmas.Int.{ints}
 use Rattle.std.proofs.lemmas.List.{append-nil, take-append-drop}
 use Rattle.pm_words.specs.Word.{sum_of, IsWord, IsGood}
-use Rattle.pm_words.specs.Plane.{Trees, none, tree, how_many, letter_of, words_of, word_of, children_of, first_trees, trees_after, trees_of, subtrees_of, IsTreeWord}
+use Rattle.pm_words.specs.Plane.{Trees, none, tree, how_many, letter_of, words_of, word_of, children_of, first_trees, trees_after, trees_of, subtrees_of}
 use Rattle.pm_words.specs.PlaneCode.{trees_of-words_of}
 use Rattle.pm_words.proofs.Heights.{sum_of-append}
 
@@ -27,9 +26,6 @@ sum_of-cons : (letter : ℤ) (later : List ℤ) → sum_of (letter ∷ later) �
 sum_of-cons letter later =
     let parts : sum_of (letter ∷ later) ≡ sum_of (letter ∷ []) +ℤ sum_of later = sum_of-append (letter ∷ []) later in
     omega (arith, ints, parts)
-
-sum_of-nil : sum_of [] ≡ pos 0
-sum_of-nil = refl
 
 sum_of-ends : (word : List ℤ) → HasLowEnds word → sum_of word ≤ℤ pos 0
 sum_of-ends [] ends = omega (arith, ints)

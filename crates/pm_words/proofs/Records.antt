@@ -1,13 +1,13 @@
 -- The places at which a word's sum is lower than ever before and below a bound: they are its good starts.
-use Rattle.std.proofs.Common.{◌≡◌, ◌≢◌, ℕ, zero, suc, ◌+◌, ◌-◌, ◌*◌, ◌/◌, ◌%◌, ◌<◌, ◌≤◌, ◌⊎◌, List, [], ◌∷◌, ◌++◌, length, get_or, take, drop, refl, ap, sym, ◌∙◌, subst, arith, inl, inr, length-append, pos, negsuc, ◌+ℤ◌, ◌-ℤ◌, neg_ℤ, ◌≤ℤ◌, ℤ}
+use Rattle.std.proofs.Common.{◌≡◌, ℕ, zero, suc, ◌+◌, ◌-◌, ◌%◌, ◌<◌, List, [], ◌∷◌, ◌++◌, length, get_or, take, drop, refl, ap, sym, ◌∙◌, subst, arith, inl, inr, length-append, pos, ◌+ℤ◌, neg_ℤ, ◌≤ℤ◌, ℤ}
 use Rattle.std.specs.Prelude.{◌<ℤ◌}
 use Rattle.std.specs.List.Sorted.{IsStrictlyIncreasing}
 use Rattle.std.proofs.Math.Nat.{mod-eq_of_lt, add-mod_right}
 use Rattle.std.proofs.lemmas.Int.{ints}
 use Rattle.std.proofs.lemmas.Bool.{cases_lt, cases_eq}
-use Rattle.std.proofs.lemmas.List.{get_or_append_left, get_or_push, get_or-append_right, get_or-drop, get_or-take, length-drop, length-take-le}
-use Rattle.pm_words.specs.Word.{sum_of, turned, IsWord, IsGood, IsGoodStart, IsGoodStarts, IsLowest}
-use Rattle.pm_words.proofs.Heights.{height, height-is, height-none, height-falls, IsLow, IsGoodStart-from_low, IsLow-from_good, IsSummedTo, lowest_bound}
+use Rattle.std.proofs.lemmas.List.{get_or_append_left, get_or_push, get_or-append_right, get_or-drop, get_or-take, length-drop}
+use Rattle.pm_words.specs.Word.{sum_of, turned, IsWord, IsGoodStarts, IsLowest}
+use Rattle.pm_words.proofs.Heights.{height, height-is, height-none, height-falls, IsLow, IsGoodStart-from_low, IsLow-from_good, IsSummedTo}
 
 -- lower than all before, and below the bound
 pub record IsRecord (word : List ℤ) (bound : ℤ) (place : ℕ) : Type 0 where

@@ -1,6 +1,6 @@
 -- Plane trees and their words: a tree is the list of its subtrees, and its word has, for each node in preorder, the
 -- number of the node's children less one (R. P. Stanley, Enumerative Combinatorics 2, 1999, section 5.3).
-use Rattle.std.specs.Prelude.{◌≡◌, ℕ, zero, suc, ◌+◌, ◌<◌, ◌^◌, ℤ, pos, negsuc, List, [], ◌∷◌, ◌++◌, length}
+use Rattle.std.specs.Prelude.{◌≡◌, ℕ, zero, suc, ◌<◌, ◌^◌, ℤ, pos, negsuc, List, [], ◌∷◌, ◌++◌, length}
 use Rattle.pm_words.specs.Word.{IsWord, IsGood}
 
 -- a list of plane trees, where a tree is the list of its subtrees: none, or a first tree and the trees after it

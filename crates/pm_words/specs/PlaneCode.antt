@@ -1,5 +1,5 @@
 -- How plane trees are stored in a contract: as their words, from which they are read back.
-use Rattle.std.specs.Prelude.{◌≡◌, ℕ, zero, suc, ℤ, List, [], ◌∷◌, ◌++◌, refl}
+use Rattle.std.specs.Prelude.{◌≡◌, ℕ, zero, suc, ℤ, List, [], ◌++◌, refl}
 use Rattle.std.specs.Coded.{Coded, code_by, coded_list, coded_ℤ}
 use Rattle.std.proofs.Common.{ap, sym, ◌∙◌, append_assoc}
 use Rattle.std.proofs.lemmas.List.{append-nil}

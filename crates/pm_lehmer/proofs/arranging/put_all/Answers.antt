@@ -1,5 +1,5 @@
-use Rattle.std.proofs.Common.{◌+◌, arith}
-use Rattle.pm_lehmer.proofs.Ranked.{first_below, first_below-none, first_below-more, first_below-all, first_below-room}
+use Rattle.std.proofs.Common.{◌+◌}
+use Rattle.pm_lehmer.proofs.Ranked.{first_below, first_below-more}
 use Rattle.pm_lehmer.proofs.arranging.put_all.Goals as goal
 
 pub numbers-preserved : goal.numbers-preserved

@@ -1,4 +1,4 @@
-use Rattle.std.proofs.Common.{arith, ◌≡◌, take, length, refl}
+use Rattle.std.proofs.Common.{arith, ◌≡◌, length, refl}
 use Rattle.pm_lehmer.specs.Lehmer.{IsArrangementOf}
 use Rattle.pm_lehmer.proofs.Arranged.{IsArrangedUpTo-none, IsArrangedUpTo-step, IsArrangedUpTo-all, IsArrangementOf-unique}
 use Rattle.pm_lehmer.proofs.arranging.take_each.Goals as goal

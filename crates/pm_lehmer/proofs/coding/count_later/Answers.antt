@@ -1,7 +1,7 @@
-use Rattle.std.proofs.Common.{◌≡◌, ◌∙◌, ℕ, ◌+◌, ◌-◌, arith, rules, refl}
+use Rattle.std.proofs.Common.{◌≡◌, ◌∙◌, ◌+◌, ◌-◌, arith, rules, refl}
 use Rattle.pm_lehmer.specs.Lehmer.{code_of}
 use Rattle.pm_lehmer.proofs.Arranged.{code_of-is_code}
-use Rattle.pm_lehmer.proofs.Ranked.{IsCodedFrom, IsCodedFrom-none, IsCodedFrom-step, rank_inside, counts_have_room}
+use Rattle.pm_lehmer.proofs.Ranked.{IsCodedFrom-none, IsCodedFrom-step, rank_inside, counts_have_room}
 use Rattle.pm_lehmer.proofs.coding.count_later.Goals as goal
 
 pub from_last-init : goal.from_last-init

@@ -1,4 +1,3 @@
-use Rattle.std.proofs.Common.{ℕ}
 use Rattle.pm_lehmer.proofs.Ranked.{IsCodedFrom}
 use Rattle.pm_lehmer.proofs.coding.count_later.Given as goal
 

@@ -1,4 +1,4 @@
-use Rattle.std.proofs.Common.{ap, ◌∙◌, List, ℤ}
+use Rattle.std.proofs.Common.{ap, ◌∙◌}
 use Rattle.pm_words.specs.Plane.{word_of, trees_of, subtrees_of}
 use Rattle.pm_words.proofs.PlaneWords.{word_of-subtrees_of}
 use Rattle.pm_words.proofs.plane.tree_of_word.Goals as goal

@@ -1,7 +1,6 @@
-use Rattle.std.proofs.Common.{arith, rules, ◌≡◌, ◌∙◌, length, get_or, pos, ◌+ℤ◌, ◌≤ℤ◌}
-use Rattle.std.proofs.lemmas.Int.{ints}
-use mir.Val.{SFits, to_z, of_z}
-use mir.Syntax.{w32, w64}
+use Rattle.std.proofs.Common.{arith, rules, get_or, pos}
+use mir.Val.{SFits}
+use mir.Syntax.{w32}
 use Rattle.pm_words.proofs.Heights.{IsSummedTo-none, IsSummedTo-step, IsSmall, IsLowest-small, lowest_bound, bound_is, filled, less_from_test, not_less_from_test}
 use Rattle.pm_words.proofs.Records.{HasRecords-none, HasRecords-push, HasRecords-high, HasRecords-same, HasRecords-starts}
 use Rattle.pm_words.proofs.starts.good_starts.Goals as goal

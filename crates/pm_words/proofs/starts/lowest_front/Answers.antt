@@ -1,4 +1,4 @@
-use Rattle.std.proofs.Common.{arith, rules, ◌≡◌, length, get_or, pos}
+use Rattle.std.proofs.Common.{arith, rules, get_or, pos}
 use mir.Val.{SFits}
 use mir.Syntax.{w32}
 use Rattle.pm_words.proofs.Heights.{IsSummedTo-none, IsSummedTo-step, IsLowestTo-none, IsLowestTo-lower, IsLowestTo-same, IsLowestTo-all, less_from_test, not_less_from_test}

@@ -1,6 +1,6 @@
-use Rattle.std.proofs.Common.{arith, rules, ◌≡◌, ◌∙◌, length, get_or, pos, negsuc, ◌≤ℤ◌, below_more}
+use Rattle.std.proofs.Common.{arith, rules, ◌∙◌, get_or, pos, negsuc, ◌≤ℤ◌, below_more}
 use Rattle.std.proofs.lemmas.Int.{ints, to_z-of_z}
-use mir.Val.{SFits, to_z, of_z}
+use mir.Val.{SFits}
 use mir.Syntax.{w32}
 use Rattle.pm_words.proofs.Heights.{IsSummedTo-none, IsSummedTo-step, height-all}
 use Rattle.pm_words.proofs.tests.word_sum.Goals as goal
