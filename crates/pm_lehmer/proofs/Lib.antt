@@ -1,0 +1,4 @@
+pub mod CountBelow
+pub mod Halving
+pub mod Arranged
+pub mod Ranked

@@ -1,0 +1,2 @@
+pub mod Lehmer
+pub mod Counted

@@ -1,0 +1,15 @@
+//! The arrangement code (Lehmer code) of a list of numbers, and the permutation of a code. Both take n·log n steps
+//! for n entries, by a tree of counts.
+#![tactic(auto)]
+
+mod arranging;
+mod coding;
+mod counts;
+mod laws;
+
+pub use arranging::arrange;
+pub use coding::code;
+pub use laws::{arrange_undoes_code, code_undoes_arrange};
+
+#[cfg(test)]
+mod tests;
