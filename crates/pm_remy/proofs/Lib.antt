@@ -1,0 +1,13 @@
+pub mod Counts
+mod Gathering
+pub mod Grafts
+pub mod Grown
+pub mod Linking
+pub mod Once
+pub mod Prunes
+pub mod Reading
+mod Stacked
+mod Stepping
+pub mod Ungrown
+mod Unwinding
+mod Waiting

@@ -1,0 +1,4 @@
+pub mod Growth
+pub mod Linked
+pub mod Tree
+pub mod Words

@@ -1,0 +1,40 @@
+-- A labelled tree in two lists by the names of its nodes. Place 0 holds the name of the root node; of the fork named f,
+-- place f holds the name of its left side and place f+1 that of its right side. The second list has the place of each
+-- name. The lists stand here for their entries, `slice_index`.
+use Rattle.std.specs.Prelude.{◌≡◌, ℕ, suc, ◌*◌, ◌≤◌, List, length, slice_index}
+use Rattle.pm_perm.specs.Permutation.{IsPermutationList}
+use Rattle.pm_remy.specs.Growth.{last_choice, pruned}
+use Rattle.pm_remy.specs.Tree.{Tree, leaf, fork, name, labels_of, leaves}
+
+-- the node hangs at the place
+pub record IsHung (links places : ℕ → ℕ) (place node : ℕ) : Type 0 where
+  pub down : links place ≡ node
+  pub up : places node ≡ place
+
+-- the two sides of each fork hang at its places
+abbrev pub IsLinked : (ℕ → ℕ) → (ℕ → ℕ) → Tree → Type 0
+IsLinked links places (leaf m) = Unit {0}
+IsLinked links places (fork left right) =
+    IsHung links places (name (fork left right)) (name left) × IsHung links places (suc (name (fork left right))) (name right)
+    × IsLinked links places left × IsLinked links places right
+
+-- the whole tree hangs at place 0
+pub record IsRooted (links places : ℕ → ℕ) (t : Tree) : Type 0 where
+  pub root : IsHung links places 0 (name t)
+  pub within : IsLinked links places t
+
+-- two lists hold a tree whose labels are the numbers from 0 on, each once, and have the room for its nodes
+pub record IsTreeIn (links places : List ℕ) (t : Tree) : Type 0 where
+  pub rooted : IsRooted (slice_index links) (slice_index places) t
+  pub once : IsPermutationList (labels_of t)
+  pub links_room : 2 * leaves t ≤ suc (length links)
+  pub places_room : 2 * leaves t ≤ suc (length places)
+
+-- two lists hold such a tree with so many leaves
+abbrev pub HasTree : List ℕ → List ℕ → ℕ → Type 0
+HasTree links places size = (t : Tree) × (IsTreeIn links places t × (leaves t ≡ size))
+
+-- the greatest label is taken from the tree: the choice that puts it back, and the lists of the tree without it
+pub record IsTaken (t : Tree) (label choice : ℕ) (links places : List ℕ) : Type 0 where
+  pub choice_is : choice ≡ last_choice label t
+  pub rest : IsTreeIn links places (pruned label t)
