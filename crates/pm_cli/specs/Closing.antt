@@ -11,14 +11,9 @@ use Rattle.pm_trees.specs.Reading.{IsTooLong, HasBadDegree, HasBadBuds}
 use Rattle.pm_match.specs.Pair.{IsPair, IsBalanced}
 use Rattle.pm_map.specs.Rotation.{RotationSystem}
 use Rattle.pm_map.specs.Canonical.{IsCanonicalOf}
+use Rattle.pm_mapfile.specs.MapText.{IsMapText}
 use Rattle.pm_close.specs.Closure.{IsClosed}
-use Rattle.pm_cli.specs.TreeFile.{IsTreeLine, IsTreeFile}
-
--- a file with this property of its word
-pub record HasWord (bytes : List ℕ) (P : List ℕ → Type 0) : Type 0 where
-  pub word : List ℕ
-  pub spelled : IsTreeLine word bytes
-  pub holds : P word
+use Rattle.pm_cli.specs.TreeFile.{IsTreeFile, HasWord}
 
 -- the text is that of the canonical map of the closure of the balanced tree with this word
 pub record ClosesTo (text word : List ℕ) : Type 0 where
@@ -28,6 +23,7 @@ pub record ClosesTo (text word : List ℕ) : Type 0 where
   pub is_closed : IsClosed (contour word) closed
   pub canonical : RotationSystem
   pub is_canonical : IsCanonicalOf closed canonical
+  pub is_text : IsMapText canonical text
 
 -- the plant of the tree with this word is in a pair with the bud
 pub record IsMatchedPlant (bud : ℕ) (word : List ℕ) : Type 0 where

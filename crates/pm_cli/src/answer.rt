@@ -2,6 +2,7 @@ ghost use Rattle.std.specs.Prelude.{◌≤◌, length};
 ghost use Rattle.pm_io.specs.declared.TheConstants.{MAX_BYTES as limit};
 ghost use Rattle.pm_cli.specs.Answering.{IsAnswerOf};
 
+use crate::close::close_eulerian;
 use crate::refusal::Stop;
 use crate::words::Command;
 use std::alloc::Global;
@@ -11,5 +12,7 @@ pub(crate) fn answer(alloc: Global, command: Command, bytes: &[u8]) -> Result<Ve
     requires { length bytes.now ≤ limit }
     ensures { IsAnswerOf command bytes.now result }
 {
-    Err(Stop::Memory)
+    match command {
+        Command::CloseEulerian => close_eulerian(alloc, bytes),
+    }
 }

@@ -2,8 +2,10 @@
 #![tactic(auto)]
 
 mod answer;
+mod close;
 mod engine;
 mod refusal;
+mod tree_file;
 mod words;
 
 pub use engine::run;
