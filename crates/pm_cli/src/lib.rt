@@ -4,10 +4,12 @@
 mod answer;
 mod close;
 mod engine;
+mod laws;
 mod refusal;
 mod tree_file;
 mod words;
 
 pub use engine::run;
+pub use laws::words_and_bytes_have_one_answer;
 pub use refusal::{Limit, Refusal, Stop, TreeRule};
 pub use words::Command;
