@@ -13,3 +13,6 @@ pub use engine::run;
 pub use laws::words_and_bytes_have_one_answer;
 pub use refusal::{Limit, Refusal, Stop, TreeRule};
 pub use words::Command;
+
+#[cfg(test)]
+mod tests;

@@ -1,0 +1,195 @@
+//! Runs over streams in memory.
+use crate::{run, words_and_bytes_have_one_answer};
+use pm_io::{MemSink, MemSource};
+use std::alloc::{AllocError, Global};
+use std::process::Abort;
+use std::test::Fail;
+
+// The streams after a run, and its status.
+#[derive(Drop)]
+struct Run {
+    status: u8,
+    out: MemSink,
+    err: MemSink,
+}
+
+// The calls that fail, and what a failing write of the output keeps.
+#[derive(Clone, Copy)]
+struct Faults {
+    read: u32,
+    out: u32,
+    part: u32,
+    err: u32,
+}
+
+const NONE: Faults = Faults {
+    read: 0,
+    out: 0,
+    part: 0,
+    err: 0,
+};
+
+fn run_on(
+    rt: &impl Abort,
+    alloc: Global,
+    line: &str,
+    bytes: &[u8],
+    faults: Faults,
+) -> Result<Run, AllocError> {
+    let mut words = Vec::new(alloc);
+    for word in line.split_whitespace() {
+        words.push(String::from_str(alloc, word)?)?;
+    }
+    assert!(rt; words.len() < 100);
+    let mut input = MemSource::new(
+        Vec::from_slice(alloc, bytes)?,
+        4,
+        vec![in alloc; faults.read]?,
+    );
+    let mut out = MemSink::new(alloc, 1000, faults.part, vec![in alloc; faults.out]?)?;
+    let mut err = MemSink::new(alloc, 1000, 0, vec![in alloc; faults.err]?)?;
+    let status = run(alloc, &words, &mut input, &mut out, &mut err);
+    Ok(Run { status, out, err })
+}
+
+#[test]
+fn answers(rt: HostRuntime) -> Result<(), Fail> {
+    words_and_bytes_have_one_answer();
+    for (bytes, want) in [
+        (
+            b"tree lbl\n".as_slice(),
+            b"map 2 0\nv 0 1 2 3\nend\n".as_slice(),
+        ),
+        (
+            b"tree bll\n".as_slice(),
+            b"map 2 0\nv 0 2 3 1\nend\n".as_slice(),
+        ),
+        (
+            b"tree b(bll)l\n".as_slice(),
+            b"map 4 0\nv 0 2 4 1\nv 3 5 6 7\nend\n".as_slice(),
+        ),
+    ] {
+        let run = run_on(&rt, rt.alloc(), "close eulerian", bytes, NONE)?;
+        assert_eq!(rt; run.status, 0);
+        assert_eq!(rt; run.out.bytes(), want);
+        assert_eq!(rt; run.err.bytes(), b"".as_slice());
+    }
+    Ok(())
+}
+
+#[test]
+fn refusals(rt: HostRuntime) -> Result<(), Fail> {
+    for (line, bytes, status, want) in [
+        ("", b"".as_slice(), 2, b"planarmap: usage 0\n".as_slice()),
+        (
+            "closes",
+            b"".as_slice(),
+            2,
+            b"planarmap: usage 0\n".as_slice(),
+        ),
+        (
+            "close",
+            b"".as_slice(),
+            2,
+            b"planarmap: usage 1\n".as_slice(),
+        ),
+        (
+            "close tri",
+            b"".as_slice(),
+            2,
+            b"planarmap: usage 1\n".as_slice(),
+        ),
+        (
+            "close eulerian x",
+            b"tree lbl\n".as_slice(),
+            2,
+            b"planarmap: usage 2\n".as_slice(),
+        ),
+        (
+            "close eulerian",
+            b"".as_slice(),
+            3,
+            b"planarmap: text 1\n".as_slice(),
+        ),
+        (
+            "close eulerian",
+            b"tree lbl".as_slice(),
+            3,
+            b"planarmap: text 1\n".as_slice(),
+        ),
+        (
+            "close eulerian",
+            b"tree l(\n".as_slice(),
+            3,
+            b"planarmap: text 1\n".as_slice(),
+        ),
+        (
+            "close eulerian",
+            b"tree lll\ntree lbl\n".as_slice(),
+            3,
+            b"planarmap: text 2\n".as_slice(),
+        ),
+        (
+            "close eulerian",
+            b"tree llb\n".as_slice(),
+            12,
+            b"planarmap: tree matched 3\n".as_slice(),
+        ),
+        (
+            "close eulerian",
+            b"tree ll\n".as_slice(),
+            12,
+            b"planarmap: tree degree 0\n".as_slice(),
+        ),
+        (
+            "close eulerian",
+            b"tree b(ll)l\n".as_slice(),
+            12,
+            b"planarmap: tree degree 2\n".as_slice(),
+        ),
+        (
+            "close eulerian",
+            b"tree lll\n".as_slice(),
+            12,
+            b"planarmap: tree buds 0\n".as_slice(),
+        ),
+    ] {
+        let run = run_on(&rt, rt.alloc(), line, bytes, NONE)?;
+        assert_eq!(rt; run.status, status, "at {line}");
+        assert_eq!(rt; run.err.bytes(), want);
+        assert_eq!(rt; run.out.bytes(), b"".as_slice());
+    }
+    Ok(())
+}
+
+#[test]
+fn failing_streams(rt: HostRuntime) -> Result<(), Fail> {
+    let tree = b"tree lbl\n".as_slice();
+    let third_read = Faults { read: 3, ..NONE };
+    let run = run_on(&rt, rt.alloc(), "close eulerian", tree, third_read)?;
+    assert_eq!(rt; run.status, 5);
+    assert_eq!(rt; run.out.bytes(), b"".as_slice());
+    assert_eq!(rt; run.err.bytes(), b"planarmap: read\n".as_slice());
+
+    let first_write = Faults {
+        out: 1,
+        part: 5,
+        ..NONE
+    };
+    let run = run_on(&rt, rt.alloc(), "close eulerian", tree, first_write)?;
+    assert_eq!(rt; run.status, 8);
+    assert_eq!(rt; run.out.bytes(), b"map 2".as_slice());
+    assert_eq!(rt; run.err.bytes(), b"planarmap: write\n".as_slice());
+
+    let flush = Faults { out: 2, ..NONE };
+    let run = run_on(&rt, rt.alloc(), "close eulerian", tree, flush)?;
+    assert_eq!(rt; run.status, 8);
+    assert_eq!(rt; run.out.bytes(), b"map 2 0\nv 0 1 2 3\nend\n".as_slice());
+    assert_eq!(rt; run.err.bytes(), b"planarmap: write\n".as_slice());
+
+    let err = Faults { err: 1, ..NONE };
+    let run = run_on(&rt, rt.alloc(), "close eulerian", b"tree llb\n", err)?;
+    assert_eq!(rt; run.status, 12);
+    assert_eq!(rt; run.out.bytes(), b"".as_slice());
+    Ok(())
+}
