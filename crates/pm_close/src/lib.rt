@@ -8,3 +8,6 @@ mod numbering;
 
 pub use closing::{CloseRefusal, Closed, close_tree};
 pub use laws::closure_is_unique;
+
+#[cfg(test)]
+mod tests;

@@ -6,3 +6,6 @@ mod rooted_map;
 
 pub use laws::canonical_is_unique;
 pub use rooted_map::RootedMap;
+
+#[cfg(test)]
+mod tests;
