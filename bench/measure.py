@@ -1,0 +1,178 @@
+"""Measures the program, alone or beside another one: measure.py FOLDER PROGRAM [OTHER]. bench/run.sh calls it.
+
+Seconds are wall seconds from the start of a process to its end. Memory is the peak of the resident memory, as the
+system tells it where the process is waited for; 1 MB is 1,000,000 bytes. The system counts what the process had before
+it became the program as well, and that is a copy of this process. So what is below this process's own memory can't be
+seen: it is printed as `<` and that bound. Hence this process stays small: it keeps no tree and no answer, and the trees
+are made by another process.
+
+Of three rounds the best counts, for seconds and memory each. In a round the programs run one after the other.
+"""
+
+import os
+import signal
+import sys
+import time
+
+ROUNDS = 3
+STARTS = 50  # starts of a program in one round of the start-up
+LIMIT = 600  # seconds after which a run is stopped
+BLOCK = 65536
+
+DEEP_NODES = [10_000, 50_000, 200_000]
+WIDE_HUBS = [106, 1_064, 4_255]
+
+# How many edges the map has: half the sum of the degrees. Beside H hubs of degree 64, 31 H + 1 nodes have degree 4.
+DEEP_EDGES = {nodes: 2 * nodes for nodes in DEEP_NODES}
+WIDE_EDGES = {hubs: 94 * hubs + 2 for hubs in WIDE_HUBS}
+
+
+class Run:
+    """What one run of a program took, and how it ended: its status, or None where it was stopped or crashed."""
+
+    def __init__(self, seconds, kilobytes, status):
+        self.seconds = seconds
+        self.kilobytes = kilobytes
+        self.status = status
+
+
+def run(words, source=os.devnull, target=os.devnull):
+    """Runs the program words[0] with the file `source` as its input, its output going to `target`, to its end."""
+    streams = [
+        (os.POSIX_SPAWN_OPEN, 0, source, os.O_RDONLY, 0),
+        (os.POSIX_SPAWN_OPEN, 1, target, os.O_WRONLY | os.O_CREAT | os.O_TRUNC, 0o600),
+        (os.POSIX_SPAWN_OPEN, 2, os.devnull, os.O_WRONLY, 0),
+    ]
+    start = time.perf_counter()
+    child = os.posix_spawnp(words[0], words, os.environ, file_actions=streams)
+    signal.signal(signal.SIGALRM, lambda *_: os.kill(child, signal.SIGKILL))
+    signal.alarm(LIMIT)
+    _, status, usage = os.wait4(child, 0)
+    seconds = time.perf_counter() - start
+    signal.alarm(0)
+    return Run(seconds, usage.ru_maxrss, os.WEXITSTATUS(status) if os.WIFEXITED(status) else None)
+
+
+def best(runs):
+    """The least seconds and memory of some runs, and their status, or None where one crashed or two differ."""
+    statuses = {each.status for each in runs}
+    status = statuses.pop() if len(statuses) == 1 else None
+    return Run(min(each.seconds for each in runs), min(each.kilobytes for each in runs), status)
+
+
+def equal_files(one, other):
+    """Whether two files have the same bytes."""
+    with open(one, "rb", buffering=0) as left, open(other, "rb", buffering=0) as right:
+        while True:
+            block = left.read(BLOCK)
+            if block != right.read(BLOCK):
+                return False
+            if not block:
+                return True
+
+
+def row(cells):
+    print("| " + " | ".join(cells) + " |", flush=True)
+
+
+def head(cells):
+    row(cells)
+    row(["---"] + ["---:"] * (len(cells) - 1))
+
+
+def megabytes(kilobytes, floor):
+    """The memory in MB, or the floor as a bound where it is no higher than a tenth above the floor."""
+    if kilobytes * 10 <= floor * 11:
+        return f"< {floor * 1.1 * 1024 / 1e6:.0f}"
+    return f"{kilobytes * 1024 / 1e6:.0f}"
+
+
+def machine():
+    with open("/proc/meminfo", encoding="ascii") as lines:
+        kilobytes = int(lines.readline().split()[1])
+    load = os.getloadavg()[0]
+    print(f"{os.cpu_count()} processors, {kilobytes * 1024 / 2**30:.0f} GiB, load {load:.1f}. Best of {ROUNDS}.\n")
+
+
+def start_up(programs):
+    """Starts each program without words, and `true`. Answers the floor of memory, and whether each status was right."""
+    commands = [("`true`", "true", 0)] + [(name, path, 2) for name, path in programs]
+    rounds = {name: [] for name, _, _ in commands}
+    for _ in range(ROUNDS):
+        for name, path, _ in commands:
+            start = time.perf_counter()
+            runs = [run([path]) for _ in range(STARTS)]
+            total = time.perf_counter() - start
+            last = best(runs)
+            rounds[name].append(Run(total / STARTS, last.kilobytes, last.status))
+    floor = best(rounds["`true`"]).kilobytes
+    head(["Start-up", "status", "milliseconds", "MB"])
+    right = True
+    for name, _, expected in commands:
+        result = best(rounds[name])
+        right = right and result.status == expected
+        row([name, str(result.status), f"{result.seconds * 1e3:.2f}", megabytes(result.kilobytes, floor)])
+    print()
+    return floor, right
+
+
+def close_once(programs, tree, answers):
+    """The best runs of `close eulerian` on the file `tree`, and whether the outputs of each round were the same."""
+    runs = [[] for _ in programs]
+    same = True
+    for _ in range(ROUNDS):
+        for number, (_, path) in enumerate(programs):
+            runs[number].append(run([path, "close", "eulerian"], tree, answers[number]))
+        same = same and equal_files(answers[0], answers[-1])
+    return [best(each) for each in runs], same
+
+
+def close_row(label, edges, results, same, floor):
+    """One row of the table: the program, its time per edge, then the other one, the ratios and whether they agree."""
+    cells = [label, f"{edges:,}", str(results[0].status), f"{results[0].seconds:.3f}"]
+    cells += [f"{results[0].seconds / edges * 1e9:.0f}", megabytes(results[0].kilobytes, floor)]
+    if len(results) == 2:
+        other = results[1]
+        cells += [f"{other.seconds:.3f}", megabytes(other.kilobytes, floor)]
+        cells += [f"{results[0].seconds / other.seconds:.2f}"]
+        cells += [f"{results[0].kilobytes / other.kilobytes:.2f}" if other.kilobytes * 10 > floor * 11 else "-"]
+        cells += ["yes" if same else "NO"]
+    row(cells)
+
+
+def close_table(programs, folder, kind, sizes, floor):
+    """One table of `close eulerian` on trees of a kind, of some sizes. Answers whether all went right."""
+    titles = [f"{kind.capitalize()} trees", "edges", "status", "seconds", "ns per edge", "MB"]
+    if len(programs) == 2:
+        titles += ["other: seconds", "other: MB", "ratio of seconds", "ratio of MB", "same output"]
+    head(titles)
+    tree = os.path.join(folder, "tree")
+    answers = [os.path.join(folder, f"map{number}") for number in range(len(programs))]
+    maker = os.path.join(os.path.dirname(os.path.abspath(__file__)), "trees.py")
+    right = True
+    for size, edges in sizes.items():
+        made = run([sys.executable, maker, kind, str(size)], target=tree)
+        results, same = close_once(programs, tree, answers)
+        close_row(f"{size:,}", edges, results, same, floor)
+        right = right and made.status == 0 and same and all(each.status == 0 for each in results)
+    print()
+    return right
+
+
+def main():
+    folder = sys.argv[1]
+    programs = list(zip(["program", "other"], map(os.path.abspath, sys.argv[2:])))
+    machine()
+    floor, right = start_up(programs)
+    for kind, sizes in [("deep", DEEP_EDGES), ("wide", WIDE_EDGES)]:
+        right = close_table(programs, folder, kind, sizes, floor) and right
+    if right:
+        same = ", and both programs printed the same." if len(programs) == 2 else "."
+        print("Each run ended with the right status" + same)
+    else:
+        print("A run didn't end in time, crashed or had a wrong status, or two outputs differ.")
+    return 0 if right else 1
+
+
+if __name__ == "__main__":
+    sys.exit(main())
