@@ -1,5 +1,5 @@
 //! Numbers in texts.
-ghost use Rattle.std.specs.Prelude.{◌≡◌, ℕ, ◌<◌, ◌^◌, ◌++◌, ◌↔◌, decimal, MatchOption, is_ok, if◌then◌else◌};
+ghost use Rattle.std.specs.Prelude.{◌≡◌, ℕ, ◌<◌, ◌≤◌, ◌^◌, ◌++◌, ◌↔◌, length, drop, decimal, MatchOption, is_ok, if◌then◌else◌};
 ghost use Rattle.std.specs.Option.{SomeIff};
 ghost use Rattle.std.specs.Str.Parse.{AllDigits, digits_value};
 ghost use Rattle.pm_text.specs.Numeral.{IsNumber, HasOneSpelling};
@@ -39,15 +39,33 @@ fn read_digits(word: &[u8]) -> Option<u64>
 ///
 /// Where memory runs out; `text` is then as before.
 #[tactic(auto, using(crate::proofs::NumeralLemmas::decimal_is_number))]
-pub fn put_number(alloc: Global, value: u64, text: &mut Vec<u8>) -> Result<(), AllocError>
+pub fn put_number(_alloc: Global, value: u64, text: &mut Vec<u8>) -> Result<(), AllocError>
     ensures text { text.new.items
         ≡ (if is_ok result then text.old.items ++ decimal value else text.old.items) }
 
     // What is appended is read as the same value.
     ensures read_again { IsNumber (decimal value) value }
 {
-    let spelling = value.to_string(alloc)?;
-    text.extend_from_slice(spelling.as_bytes())
+    let mut digits = [0u8; 20];
+    let start = write_digits(value, &mut digits);
+    text.extend_from_slice(&digits[start..])
+}
+
+// Writes the spelling to the end of the buffer, which has room for the greatest number, and says where it begins.
+fn write_digits(value: u64, digits: &mut [u8]) -> usize
+    requires { length digits.old ≡ 20 }
+    ensures within { result ≤ 20 }
+    ensures spelled { drop result digits.new ≡ decimal value }
+{
+    let mut rest = value / 10;
+    let mut start: usize = 19;
+    digits[start] = b'0' + (value % 10) as u8;
+    'digits: while rest > 0 {
+        start -= 1;
+        digits[start] = b'0' + (rest % 10) as u8;
+        rest /= 10;
+    }
+    start
 }
 
 /// A law: what [`put_number`] appends is the one word that spells the number, so [`number`] reads it
