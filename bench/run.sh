@@ -19,9 +19,7 @@ other=${2:-${PLANARMAP_YARDSTICK:-}}
 
 if [ -z "$program" ]; then
     program=$top/crates/planarmap/out/planarmap
-    if [ ! -x "$program" ]; then
-        "$top/planarmap" --build >&2 || exit 2
-    fi
+    "$top/planarmap" --build >&2 || exit 2
 fi
 for path in "$program" ${other:+"$other"}; do
     if [ ! -f "$path" ] || [ ! -x "$path" ]; then
