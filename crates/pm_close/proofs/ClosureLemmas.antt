@@ -89,7 +89,7 @@ laid_out_twins places across t h = record {
 succ_inside : (p n : ℕ) → suc p < n → suc p % n ≡ suc p
 succ_inside p n l = grind arith
 
-succ_last : (n : ℕ) → 0 < n → n % n ≡ 0
+pub succ_last : (n : ℕ) → 0 < n → n % n ≡ 0
 succ_last n l = grind arith
 
 succ_below : (p n : ℕ) → p < n → suc p % n < n

@@ -2,6 +2,7 @@ pub mod ClosedMap
 pub mod ClosureLemmas
 pub mod DartLemmas
 pub mod JoiningSteps
+pub mod NodeVertices
 pub mod NumberingSteps
 pub mod OneClosure
 pub mod RootedClosure

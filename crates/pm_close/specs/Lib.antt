@@ -2,4 +2,5 @@ pub mod Closing
 pub mod Closure
 pub mod Joining
 pub mod Laws
+pub mod Nodes
 pub mod Twinning

@@ -1,8 +1,16 @@
 //! Laws of closures, for the crates above.
 ghost use Rattle.pm_close.specs.Laws.{HasOneClosure, ClosureIsRooted};
+ghost use Rattle.pm_close.specs.Nodes.{NodesAreVertices};
 
 /// A law: a blossoming tree has one closure, and it is a rooted map.
 pub fn closure_is_unique()
     ensures one { HasOneClosure }
     ensures rooted { ClosureIsRooted }
 {}
+
+/// A law: each node of a tree is a vertex of its closure, from the node's edge to its parent through its entries in order.
+/// So the node's degree is that of the vertex, whatever leaf the tree hangs on.
+pub fn nodes_are_vertices()
+    ensures { NodesAreVertices }
+{
+}

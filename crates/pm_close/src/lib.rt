@@ -7,7 +7,7 @@ mod laws;
 mod numbering;
 
 pub use closing::{CloseRefusal, Closed, close_tree};
-pub use laws::closure_is_unique;
+pub use laws::{closure_is_unique, nodes_are_vertices};
 
 #[cfg(test)]
 mod tests;
