@@ -12,5 +12,4 @@ pub fn closure_is_unique()
 /// So the node's degree is that of the vertex, whatever leaf the tree hangs on.
 pub fn nodes_are_vertices()
     ensures { NodesAreVertices }
-{
-}
+{}
