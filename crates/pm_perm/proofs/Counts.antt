@@ -1,5 +1,5 @@
 -- Counts of the numbers below a bound.
-use Rattle.std.proofs.Common.{◌≡◌, ◌≢◌, ℕ, zero, suc, ◌+◌, ◌<◌, ◌≤◌, Bool, true, not, ◌&&◌, cond, eqb, refl, inl, inr, arith}
+use Rattle.std.proofs.Common.{◌≡◌, ◌≢◌, ℕ, zero, suc, ◌+◌, ◌<◌, ◌≤◌, Bool, true, false, ◌⊎◌, not, ◌&&◌, cond, eqb, refl, inl, inr, arith}
 use Rattle.std.proofs.lemmas.Bool.{cases_eq}
 use Rattle.pm_perm.specs.Count.{count_below}
 
@@ -74,3 +74,44 @@ count_below-parts P Q zero h = omega arith
 count_below-parts P Q (suc n) h = parts_step P Q n (h n (omega arith)) (count_below-parts P Q n (λ k lt. h k (omega arith))) where
   parts_step : (P Q : ℕ → Bool) (n : ℕ) → P n ≡ not (Q n) → count_below P n + count_below Q n ≡ n → count_below P (suc n) + count_below Q (suc n) ≡ suc n
   parts_step P Q n h rest = grind arith
+
+-- what passes one test and is sent to different numbers that pass another is no more than those
+pub count_below-into : (P Q : ℕ → Bool) (h : ℕ → ℕ) (n m : ℕ) → ((k : ℕ) → k < n → P k ≡ true → h k < m)
+    → ((k : ℕ) → k < n → P k ≡ true → Q (h k) ≡ true)
+    → ((j k : ℕ) → j < n → k < n → P j ≡ true → P k ≡ true → h j ≡ h k → j ≡ k) → count_below P n ≤ count_below Q m
+count_below-into P Q h zero m stays passes injective = omega arith
+count_below-into P Q h (suc n) m stays passes injective = elim (cases_true (P n)) [
+  | inl this ↦
+      let Q' : ℕ → Bool = λ k. Q k && not (eqb k (h n)) in
+      let fewer : count_below P n ≤ count_below Q' m = count_below-into P Q' h n m (λ k lt. stays k (omega arith))
+      (λ k lt e. both (Q (h k)) (h k) (h n) (passes k (omega arith) e) (λ same. not_last k n lt (injective k n (omega arith) (omega arith) e this same)))
+      (λ j k lt lt' e e'. injective j k (omega arith) (omega arith) e e') in
+      let whole : count_below Q m ≡ count_below Q' m + cond (Q (h n)) 1 0 = count_below-without Q (h n) m (stays n (omega arith) this) in
+      into_step P Q Q' n m (h n) this (passes n (omega arith) this) fewer whole
+  | inr other ↦
+      into_skip P Q n m other (count_below-into P Q h n m (λ k lt. stays k (omega arith)) (λ k lt. passes k (omega arith)) (λ j k lt lt'. injective j k (omega arith) (omega arith)))
+] where
+  cases_true : (b : Bool) → (b ≡ true) ⊎ (b ≡ false)
+  cases_true b = elim b as (λ v. (v ≡ true) ⊎ (v ≡ false)) [ true ↦ inl refl | false ↦ inr refl ]
+
+  not_last : (k n : ℕ) → k < n → k ≡ n → ⊥
+  not_last k n lt e = omega arith
+
+  both : (b : Bool) (x y : ℕ) → b ≡ true → (x ≡ y → ⊥) → (b && not (eqb x y)) ≡ true
+  both b x y e ne = grind arith
+
+  into_step : (P Q Q' : ℕ → Bool) (n m a : ℕ) → P n ≡ true → Q a ≡ true → count_below P n ≤ count_below Q' m
+      → count_below Q m ≡ count_below Q' m + cond (Q a) 1 0 → count_below P (suc n) ≤ count_below Q m
+  into_step P Q Q' n m a e e' fewer whole = grind arith
+
+  into_skip : (P Q : ℕ → Bool) (n m : ℕ) → P n ≡ false → count_below P n ≤ count_below Q m → count_below P (suc n) ≤ count_below Q m
+  into_skip P Q n m e h = grind arith
+
+-- a test that splits into two: each number goes with one of them, or with neither
+pub count_below-split : (P Q R : ℕ → Bool) (n : ℕ) → ((k : ℕ) → k < n → ((P k ≡ R k) × (Q k ≡ false)) ⊎ ((P k ≡ false) × (Q k ≡ R k))) → count_below P n + count_below Q n ≡ count_below R n
+count_below-split P Q R zero h = omega arith
+count_below-split P Q R (suc n) h = split_step P Q R n (h n (omega arith)) (count_below-split P Q R n (λ k lt. h k (omega arith))) where
+  split_step : (P Q R : ℕ → Bool) (n : ℕ) → ((P n ≡ R n) × (Q n ≡ false)) ⊎ ((P n ≡ false) × (Q n ≡ R n)) → count_below P n + count_below Q n ≡ count_below R n
+      → count_below P (suc n) + count_below Q (suc n) ≡ count_below R (suc n)
+  split_step P Q R n (inl e) rest = let a = e.0 in let b = e.1 in grind arith
+  split_step P Q R n (inr e) rest = let a = e.0 in let b = e.1 in grind arith

@@ -1,2 +1,9 @@
 pub mod Count
+pub mod CycleLaws
+pub mod Cycles
+pub mod Exchange
+pub mod Lists
+pub mod Pairs
+pub mod PartMap
+pub mod PartMapLaws
 pub mod Permutation

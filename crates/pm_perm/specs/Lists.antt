@@ -1,0 +1,30 @@
+-- Permutations as lists: the inverse, the leaders, and what the calls mark.
+use Rattle.std.specs.Prelude.{◌≡◌, ℕ, ◌<◌, ◌≤◌, Bool, ltb, List, length, slice_index}
+use Rattle.pm_perm.specs.Cycles.{leader, IsLeastInCycle}
+
+-- the number stands in the list, at this place
+pub record IsStanding (values : List ℕ) (number : ℕ) : Type 0 where
+  pub place : ℕ
+  pub within : place < length values
+  pub here : slice_index values place ≡ number
+
+-- the inverse of a permutation: at each value it has the place where that value stands
+pub record IsInverseList (values inverse : List ℕ) : Type 0 where
+  pub same_length : length inverse ≡ length values
+  pub undoes : (k : ℕ) → k < length values → slice_index inverse (slice_index values k) ≡ k
+  pub undone : (k : ℕ) → k < length values → slice_index values (slice_index inverse k) ≡ k
+
+-- entry k is the least number in the cycle of k
+pub record IsLeaderList (values leaders : List ℕ) : Type 0 where
+  pub same_length : length leaders ≡ length values
+  pub leads : (k : ℕ) → k < length values → slice_index leaders k ≡ leader (length values) (slice_index values) k
+  pub least : (k : ℕ) → k < length values → IsLeastInCycle (slice_index values) k (slice_index leaders k)
+
+-- the numbers whose leader is below the bound are marked, and no others
+pub record IsMarkedBelow (size : ℕ) (f : ℕ → ℕ) (bound : ℕ) (marked : ℕ → Bool) : Type 0 where
+  pub marks : (k : ℕ) → k < size → marked k ≡ ltb (leader size f k) bound
+
+-- an entry is the leader where that is below the bound, and the length elsewhere
+pub record IsLedBelow (values : List ℕ) (bound : ℕ) (leaders : List ℕ) : Type 0 where
+  pub leads : (k : ℕ) → k < length values → leader (length values) (slice_index values) k < bound → slice_index leaders k ≡ leader (length values) (slice_index values) k
+  pub open_later : (k : ℕ) → k < length values → bound ≤ leader (length values) (slice_index values) k → slice_index leaders k ≡ length values
