@@ -1,0 +1,3 @@
+pub mod ListLine
+pub mod Refusal
+pub mod Valid
