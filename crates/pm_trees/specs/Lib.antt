@@ -1,5 +1,10 @@
+pub mod Binomial
 pub mod Blossoming
+pub mod BudPattern
 pub mod First
+pub mod Leaves
 pub mod Node
+pub mod Pairs
+pub mod Profile
 pub mod Reading
 pub mod Word

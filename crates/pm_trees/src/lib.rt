@@ -4,16 +4,29 @@
 mod bracketing;
 mod faults;
 mod laws;
+mod leaf_places;
 mod letters;
 mod nodes;
+mod pairs;
+mod patterns;
+mod profile;
 mod read;
 mod tree;
 
 pub use bracketing::brackets;
 pub use laws::answer_is_unique;
+pub use leaf_places::leaf_place;
 pub use letters::{BUD, CLOSE, LEAF, OPEN};
+pub use patterns::{SLOT, pattern, pattern_count, patterns_are_ranked, rank};
+pub use profile::{Profile, ProfileRefusal};
 pub use read::read_tree;
 pub use tree::{Tree, TreeRefusal};
 
+#[cfg(test)]
+mod leaf_tests;
+#[cfg(test)]
+mod pattern_tests;
+#[cfg(test)]
+mod profile_tests;
 #[cfg(test)]
 mod tests;

@@ -1,0 +1,22 @@
+-- Profiles: which degrees the nodes of a tree have, and how many nodes have each of them. A profile is a list of pairs of
+-- a degree and a count, in rising order of the degree.
+use Rattle.std.specs.Prelude.{◌≡◌, ℕ, ◌<◌, List, Result, Ok, Err, ⊤}
+use Rattle.pm_limits.specs.declared.TheConstants.{MAX_EDGES}
+use Rattle.pm_trees.specs.declared.profile.Profile.{Profile}
+use Rattle.pm_trees.specs.declared.profile.ProfileRefusal.{ProfileRefusal}
+use Rattle.pm_trees.specs.declared.profile.ProfileRefusal.TheVariants.{Memory, Pair, TooMany}
+use Rattle.pm_trees.specs.First.{IsFirst}
+use Rattle.pm_trees.specs.Pairs.{ArePairs, BreaksPair, IsProfile, edges_of}
+
+-- every pair is right, but the nodes have more edges than a map may have: how many
+pub record HasTooMany (pairs : List (ℕ × ℕ)) (edges : ℕ) : Type 0 where
+  pub are_pairs : ArePairs pairs
+  pub counted : edges ≡ edges_of pairs
+  pub many : MAX_EDGES < edges
+
+-- The answer to a list of pairs: the profile, or the first rule that the list breaks. Want of memory may come at any list.
+abbrev pub IsProfileAnswer : List (ℕ × ℕ) → Result Profile ProfileRefusal → Type 0
+IsProfileAnswer pairs (Ok profile) = (profile ≡ pairs) × IsProfile pairs
+IsProfileAnswer pairs (Err (Pair place)) = IsFirst (BreaksPair pairs) place
+IsProfileAnswer pairs (Err (TooMany edges)) = HasTooMany pairs edges
+IsProfileAnswer pairs (Err Memory) = ⊤
