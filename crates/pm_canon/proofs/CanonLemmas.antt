@@ -11,7 +11,7 @@ use Rattle.pm_map.specs.Canonical.{first_mentions, IsCanonicalOf}
 use Rattle.pm_map.specs.Meeting.{darts_of, Meets, at_root, onward, IsMeetingList, no_dart, complete}
 use Rattle.pm_map.proofs.UniqueMeeting.{vertex_begins}
 use Rattle.pm_map.proofs.CarriedMeeting.{AreBelow, darts_of-onward, darts_of-map, meeting_list_carried}
-use Rattle.pm_map.proofs.CarriedStructure.{structure_carried, connected_carried}
+use Rattle.pm_map.proofs.CarriedStructure.{structure_carried, connected_carried, euler_carried}
 use Rattle.pm_map.proofs.CanonicalNames.{HasEdge, each_edge_is_mentioned, first_mentions-map, carries_keeps_twins}
 use Rattle.pm_canon.specs.Kept.{IsMeetingOrder}
 use Rattle.pm_canon.specs.Naming.{NamesMentions, IsRenamed}
@@ -140,11 +140,13 @@ names_carry m darts names sigma n renamed = record {
 pub renamed_is_map : (m : RotationSystem) (darts names sigma : List ℕ) → IsNumbered m darts names → IsRenamed names m.sigma sigma → IsRootedMap (record { sigma = sigma; root = 0 })
 renamed_is_map m darts names sigma n renamed =
     let carries = names_carry m darts names sigma n renamed in
+    let structure = structure_carried (slice_index names) (structure_of m) (structure_of (record { sigma = sigma; root = 0 })) n.is_map.structure carries (λ _. refl) in
     record {
       even = ap (λ k. k % 2) renamed.size ∙ n.is_map.even;
       few = subst (λ k. k ≤ 2 * MAX_EDGES) (sym renamed.size) n.is_map.few;
-      structure = structure_carried (slice_index names) (structure_of m) (structure_of (record { sigma = sigma; root = 0 })) n.is_map.structure carries (λ _. refl);
+      structure = structure;
       connected = connected_carried (slice_index names) (structure_of m) (structure_of (record { sigma = sigma; root = 0 })) carries n.is_map.connected;
+      euler = euler_carried (slice_index names) (structure_of m) (structure_of (record { sigma = sigma; root = 0 })) n.is_map.structure structure carries n.is_map.euler;
     }
 
 pub renamed_is_canonical : (m : RotationSystem) (darts names sigma : List ℕ) → IsNumbered m darts names → IsRenamed names m.sigma sigma → IsCanonicalOf m (record { sigma = sigma; root = 0 })

@@ -6,7 +6,9 @@ use std::test::Fail;
 #[test]
 fn canonical_path(rt: HostRuntime) -> Result<(), Fail> {
     let sigma = Vec::from_slice(rt.alloc(), &[3, 1, 2, 0])?;
-    let path = RootedMap::of_rotation(sigma, 3);
+    let answer = RootedMap::from_parts(rt.alloc(), sigma, 3);
+    assert!(rt; answer.is_ok());
+    let Ok(path) = answer else { return Ok(()) };
     let canonical = canon(rt.alloc(), &path)?;
     assert_eq!(rt; canonical.root(), 0);
     assert_eq!(rt; canonical.sigma(), [2, 1, 0, 3].as_slice());
@@ -17,19 +19,25 @@ fn canonical_path(rt: HostRuntime) -> Result<(), Fail> {
 #[test]
 fn canonical_loops(rt: HostRuntime) -> Result<(), Fail> {
     let sigma = Vec::from_slice(rt.alloc(), &[1, 2, 3, 0])?;
-    let loops = RootedMap::of_rotation(sigma, 3);
+    let answer = RootedMap::from_parts(rt.alloc(), sigma, 3);
+    assert!(rt; answer.is_ok());
+    let Ok(loops) = answer else { return Ok(()) };
     let canonical = canon(rt.alloc(), &loops)?;
     assert_eq!(rt; canonical.root(), 0);
     assert_eq!(rt; canonical.sigma(), [2, 0, 3, 1].as_slice());
     let sigma = Vec::from_slice(rt.alloc(), &[3, 1, 2, 0])?;
-    let path = RootedMap::of_rotation(sigma, 3);
+    let answer = RootedMap::from_parts(rt.alloc(), sigma, 3);
+    assert!(rt; answer.is_ok());
+    let Ok(path) = answer else { return Ok(()) };
     assert!(rt; !same(rt.alloc(), &loops, &path)?);
     Ok(())
 }
 
 #[test]
 fn no_dart(rt: HostRuntime) -> Result<(), Fail> {
-    let none = RootedMap::of_rotation(Vec::new(rt.alloc()), 0);
+    let answer = RootedMap::from_parts(rt.alloc(), Vec::new(rt.alloc()), 0);
+    assert!(rt; answer.is_ok());
+    let Ok(none) = answer else { return Ok(()) };
     let canonical = canon(rt.alloc(), &none)?;
     assert_eq!(rt; canonical.edges(), 0);
     assert!(rt; same(rt.alloc(), &none, &canonical)?);

@@ -17,7 +17,8 @@ use Rattle.pm_map.specs.Canonical.{IsCanonicalOf}
 use Rattle.pm_map.proofs.UniqueMeeting.{meeting_list_is_unique}
 use Rattle.pm_map.proofs.UniqueCanonical.{canonical_map_is_unique}
 use Rattle.pm_mapfile.specs.MapText.{IsMapText, map_text}
-use Rattle.pm_close.proofs.RootedClosure.{one_closure, rooted_closure}
+use Rattle.pm_close.proofs.RootedClosure.{one_closure}
+use Rattle.pm_close.proofs.PlaneMap.{rooted_closure}
 use Rattle.pm_cli.specs.declared.words.Command.{Command}
 use Rattle.pm_cli.specs.declared.words.Command.TheVariants.{CloseEulerian}
 use Rattle.pm_cli.specs.declared.refusal.Limit.{Limit}
@@ -41,7 +42,7 @@ one_text m a b x y = x.is_text ∙ ap (map_text m) (meeting_list_is_unique (stru
 one_closing : (word a b : List ℕ) → ClosesTo a word → ClosesTo b word → a ≡ b
 one_closing word a b x y =
     let closed : x.closed ≡ y.closed = one_closure word x.closed y.closed x.blossoming x.is_closed y.is_closed in
-    let canonical : x.canonical ≡ y.canonical = canonical_map_is_unique y.closed x.canonical y.canonical (rooted_closure word y.closed y.blossoming y.is_closed)
+    let canonical : x.canonical ≡ y.canonical = canonical_map_is_unique y.closed x.canonical y.canonical (rooted_closure word y.closed y.blossoming y.balanced y.is_closed)
     (subst (λ (m : RotationSystem). IsCanonicalOf m x.canonical) closed x.is_canonical) y.is_canonical in
     one_text y.canonical a b (subst (λ (m : RotationSystem). IsMapText m a) canonical x.is_text) y.is_text
 

@@ -1,4 +1,4 @@
--- The map that closing makes is the closure, and a rooted map.
+-- The map that closing makes is the closure.
 use Rattle.std.proofs.Common.{◌≡◌, ℕ, suc, ◌*◌, ◌%◌, ◌<◌, ◌≤◌, List, length, refl, sym, ◌∙◌, ap, subst, arith}
 use Rattle.std.specs.Prelude.{slice_index}
 use Rattle.pm_limits.specs.declared.TheConstants.{MAX_EDGES}
@@ -115,19 +115,3 @@ module _ (places across twins darts sigma : List ℕ) (found : Pairs) (made : Is
   } where
     carried : CarriesTo (dart_of (slice_index twins)) (laid_out places (slice_index across) (slice_index twins)) (structure_of (record { sigma = sigma; root = 0 }))
     carried = map_is_carried some
-
-  -- the map is a rooted map
-  pub made_is_rooted : 0 < length places → length places ≤ 2 * MAX_EDGES → IsRootedMap (record { sigma = sigma; root = 0 })
-  unfolding laid_out
-  made_is_rooted some few =
-      let structure = laid_out_structure places (slice_index across) (slice_index twins) some layout in
-      record {
-        even = half;
-        few = omega (arith, all_places);
-        structure = structure_carried (dart_of (slice_index twins)) (laid_out places (slice_index across) (slice_index twins))
-            (structure_of (record { sigma = sigma; root = 0 })) structure (map_is_carried some) (λ _. refl);
-        connected = connected_carried (dart_of (slice_index twins)) (laid_out places (slice_index across) (slice_index twins))
-            (structure_of (record { sigma = sigma; root = 0 })) (map_is_carried some) (laid_out_connected places (slice_index across) (slice_index twins) layout);
-      } where
-        half : length sigma % 2 ≡ 0
-        half = omega (arith, firsts_half (length places) (slice_index twins) twinning, all_places)

@@ -86,7 +86,7 @@ laid_out_twins places across t h = record {
 }
 
 -- the next place along the ring, of a place that isn't the last and of the last
-succ_inside : (p n : ℕ) → suc p < n → suc p % n ≡ suc p
+pub succ_inside : (p n : ℕ) → suc p < n → suc p % n ≡ suc p
 succ_inside p n l = grind arith
 
 pub succ_last : (n : ℕ) → 0 < n → n % n ≡ 0

@@ -5,5 +5,7 @@ pub mod JoiningSteps
 pub mod NodeVertices
 pub mod NumberingSteps
 pub mod OneClosure
+pub mod PlaneClosure
+pub mod PlaneMap
 pub mod RootedClosure
 pub mod TwinLemmas

@@ -1,7 +1,8 @@
--- What holds of closures: a tree has one, and it is a rooted map.
+-- What holds of closures: a tree has one, and that of a balanced tree is a rooted map.
 use Rattle.std.specs.Prelude.{◌≡◌, ℕ, List}
 use Rattle.pm_trees.specs.Word.{contour}
 use Rattle.pm_trees.specs.Blossoming.{IsBlossoming}
+use Rattle.pm_match.specs.Pair.{IsBalanced}
 use Rattle.pm_map.specs.Rotation.{RotationSystem, IsRootedMap}
 use Rattle.pm_close.specs.Closure.{IsClosed}
 
@@ -9,6 +10,6 @@ use Rattle.pm_close.specs.Closure.{IsClosed}
 abbrev pub HasOneClosure : Type 0
 HasOneClosure = (word : List ℕ) (one other : RotationSystem) → IsBlossoming word → IsClosed (contour word) one → IsClosed (contour word) other → one ≡ other
 
--- the closure of a blossoming tree is a rooted map
+-- the closure of a balanced tree is a rooted map, so it is plane
 abbrev pub ClosureIsRooted : Type 0
-ClosureIsRooted = (word : List ℕ) (map : RotationSystem) → IsBlossoming word → IsClosed (contour word) map → IsRootedMap map
+ClosureIsRooted = (word : List ℕ) (map : RotationSystem) → IsBlossoming word → IsBalanced (contour word) → IsClosed (contour word) map → IsRootedMap map

@@ -2,7 +2,7 @@
 ghost use Rattle.pm_close.specs.Laws.{HasOneClosure, ClosureIsRooted};
 ghost use Rattle.pm_close.specs.Nodes.{NodesAreVertices};
 
-/// A law: a blossoming tree has one closure, and it is a rooted map.
+/// A law: a blossoming tree has one closure, and that of a balanced tree is a rooted map, so it is plane.
 pub fn closure_is_unique()
     ensures one { HasOneClosure }
     ensures rooted { ClosureIsRooted }

@@ -1,6 +1,10 @@
--- What a structure is carried to is a structure, and connected where the first is.
-use Rattle.std.proofs.Common.{◌≡◌, ℕ, ◌<◌, IsTrue, sym, ap, ◌∙◌, subst, arith}
-use Rattle.pm_map.specs.Structure.{Structure, IsStructure, IsClosedSet, IsConnected, CarriesTo}
+-- What a structure is carried to is a structure, connected where the first is, and with its Euler number.
+use Rattle.std.proofs.Common.{◌≡◌, ℕ, ◌+◌, ◌/◌, ◌<◌, IsTrue, cond, eqb, sym, ap, ◌∙◌, subst, arith}
+use Rattle.pm_perm.specs.Permutation.{IsPermutationBelow}
+use Rattle.pm_perm.specs.Cycles.{cycles}
+use Rattle.pm_perm.proofs.Renumbered.{cycles-renumbered}
+use Rattle.pm_map.specs.Structure.{Structure, IsStructure, IsClosedSet, IsConnected, CarriesTo, face_next}
+use Rattle.pm_map.specs.Plane.{HasEulerTwo}
 use Rattle.pm_perm.proofs.Inverse.{place_of, place_of-stays, value-place_of}
 
 -- a dart of the second structure comes from one of the first, and so do its next and its twin
@@ -64,3 +68,29 @@ connected_carried f a b carries connected = λ holds root closed d h.
     } in
     subst (λ y. IsTrue (holds y)) from.dart
     (connected (λ x. holds (f x)) (subst (λ y. IsTrue (holds y)) (sym (carries.root filled)) root) pulled from.source from.below)
+
+-- the face rule of a structure is a permutation
+pub face_permutes : (s : Structure) → IsStructure s → IsPermutationBelow s.darts (face_next s)
+face_permutes s structure = record {
+  stays = λ k h. structure.rotation.stays (s.twin k) (structure.twin_stays k h);
+  injective = λ j k hj hk e.
+      let twins : s.twin j ≡ s.twin k = structure.rotation.injective (s.twin j) (s.twin k) (structure.twin_stays j hj) (structure.twin_stays k hk) e in
+      sym (structure.twin_back j hj) ∙ ap s.twin twins ∙ structure.twin_back k hk;
+}
+
+-- Euler's number is carried
+pub euler_carried : (f : ℕ → ℕ) (a b : Structure) → IsStructure a → IsStructure b → CarriesTo f a b → HasEulerTwo a → HasEulerTwo b
+euler_carried f a b one other carries euler =
+    let there : IsPermutationBelow a.darts b.next = subst (λ n. IsPermutationBelow n b.next) (sym carries.darts) other.rotation in
+    let faces_there : IsPermutationBelow a.darts (face_next b) = subst (λ n. IsPermutationBelow n (face_next b)) (sym carries.darts) (face_permutes b other) in
+    let vertices : cycles a.darts a.next ≡ cycles a.darts b.next = cycles-renumbered a.darts f a.next b.next one.rotation there
+    (record { permutes = carries.renumbers; carries = λ k h. carries.next k h }) in
+    let faces : cycles a.darts (face_next a) ≡ cycles a.darts (face_next b) = cycles-renumbered a.darts f (face_next a) (face_next b) (face_permutes a one) faces_there
+    (record { permutes = carries.renumbers; carries = λ k h. carries.next (a.twin k) (one.twin_stays k h) ∙ ap b.next (carries.twin k h) }) in
+    by_numbers a.darts b.darts (cycles a.darts a.next) (cycles a.darts (face_next a)) b.next (face_next b) carries.darts vertices faces euler where
+      by_numbers : (n m v w : ℕ) (g h : ℕ → ℕ) → n ≡ m → v ≡ cycles n g → w ≡ cycles n h → cond (eqb n 0) 1 v + cond (eqb n 0) 1 w ≡ n / 2 + 2
+          → cond (eqb m 0) 1 (cycles m g) + cond (eqb m 0) 1 (cycles m h) ≡ m / 2 + 2
+      by_numbers n m v w g h darts vertices faces euler =
+          let one : cond (eqb n 0) 1 (cycles n g) + cond (eqb n 0) 1 w ≡ n / 2 + 2 = subst (λ x. cond (eqb n 0) 1 x + cond (eqb n 0) 1 w ≡ n / 2 + 2) vertices euler in
+          let both : cond (eqb n 0) 1 (cycles n g) + cond (eqb n 0) 1 (cycles n h) ≡ n / 2 + 2 = subst (λ x. cond (eqb n 0) 1 (cycles n g) + cond (eqb n 0) 1 x ≡ n / 2 + 2) faces one in
+          subst (λ k. cond (eqb k 0) 1 (cycles k g) + cond (eqb k 0) 1 (cycles k h) ≡ k / 2 + 2) darts both

@@ -1,8 +1,13 @@
 pub mod CanonicalNames
 pub mod CarriedMeeting
 pub mod CarriedStructure
+pub mod FaceLemmas
+pub mod MarksLemmas
+pub mod SearchLemmas
 pub mod SameMaps
 pub mod StandsLemmas
+pub mod TwinLemmas
 pub mod UniqueCanonical
 pub mod UniqueMeeting
+pub mod UniqueParts
 pub mod WholeMeeting

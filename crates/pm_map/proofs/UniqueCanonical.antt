@@ -5,7 +5,7 @@ use Rattle.pm_map.specs.Structure.{CarriesTo, Same}
 use Rattle.pm_map.specs.Rotation.{RotationSystem, structure_of, IsRootedMap}
 use Rattle.pm_map.specs.Canonical.{IsCanonicalOf}
 use Rattle.pm_map.specs.CanonicalLaws.{CanonicalIsRooted, CanonicalIsUnique, CanonicalTellsMaps}
-use Rattle.pm_map.proofs.CarriedStructure.{structure_carried, connected_carried}
+use Rattle.pm_map.proofs.CarriedStructure.{structure_carried, connected_carried, euler_carried}
 use Rattle.pm_map.proofs.CanonicalNames.{same_canonical_maps_are_equal}
 use Rattle.pm_map.proofs.SameMaps.{same_symmetric, same_transitive}
 
@@ -14,11 +14,13 @@ pub canonical_map_is_rooted : CanonicalIsRooted
 canonical_map_is_rooted map canonical valid is =
     let carries : CarriesTo is.is_same.0 (structure_of map) (structure_of canonical) = is.is_same.1 in
     let darts : length map.sigma ≡ length canonical.sigma = carries.darts in
+    let structure = structure_carried is.is_same.0 (structure_of map) (structure_of canonical) valid.structure carries (λ none. is.is_canonical.root) in
     record {
       even = subst (λ n. n % 2 ≡ 0) darts valid.even;
       few = subst (λ n. n ≤ 2 * MAX_EDGES) darts valid.few;
-      structure = structure_carried is.is_same.0 (structure_of map) (structure_of canonical) valid.structure carries (λ none. is.is_canonical.root);
+      structure = structure;
       connected = connected_carried is.is_same.0 (structure_of map) (structure_of canonical) carries valid.connected;
+      euler = euler_carried is.is_same.0 (structure_of map) (structure_of canonical) valid.structure structure carries valid.euler;
     }
 
 -- canonical maps of maps that are the same are equal

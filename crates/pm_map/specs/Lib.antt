@@ -1,5 +1,12 @@
 pub mod Canonical
 pub mod CanonicalLaws
+pub mod Marks
+pub mod Faces
 pub mod Meeting
+pub mod Missing
+pub mod Parts
+pub mod Plane
+pub mod Reached
 pub mod Rotation
+pub mod Search
 pub mod Structure

@@ -2,6 +2,7 @@
 use Rattle.std.specs.Prelude.{◌≡◌, ℕ, suc, ◌*◌, ◌-◌, ◌%◌, ◌≤◌, List, length, slice_index}
 use Rattle.pm_limits.specs.declared.TheConstants.{MAX_EDGES}
 use Rattle.pm_map.specs.Structure.{Structure, IsStructure, IsConnected}
+use Rattle.pm_map.specs.Plane.{HasEulerTwo}
 
 -- what contracts see of a rooted map: entry d of sigma is the dart after d around its vertex
 pub record RotationSystem : Type 0 where
@@ -16,9 +17,10 @@ twin d = suc d - 2 * (d % 2)
 abbrev pub structure_of : RotationSystem → Structure
 structure_of m = record { darts = length m.sigma; next = slice_index m.sigma; twin = twin; root = m.root }
 
--- what every rooted map keeps: an even number of darts within the limit, a rotation, a root, and connectedness
+-- what every rooted map keeps: an even number of darts within the limit, a rotation and a root, and that it is plane
 pub record IsRootedMap (m : RotationSystem) : Type 0 where
   pub even : length m.sigma % 2 ≡ 0
   pub few : length m.sigma ≤ 2 * MAX_EDGES
   pub structure : IsStructure (structure_of m)
   pub connected : IsConnected (structure_of m)
+  pub euler : HasEulerTwo (structure_of m)

@@ -1,4 +1,5 @@
 ghost use Rattle.pm_map.specs.CanonicalLaws.{CanonicalIsRooted, CanonicalIsUnique, CanonicalTellsMaps};
+ghost use Rattle.pm_map.specs.Parts.{HasOneMapAnswer};
 
 /// What canonical maps are for, as a law to call upon; nothing is computed. The canonical map of a rooted map is a rooted
 /// map, a rooted map has no two canonical maps, and two rooted maps are the same, up to a renumbering of their darts,
@@ -7,4 +8,10 @@ pub fn canonical_is_unique()
     ensures rooted { CanonicalIsRooted }
     ensures unique { CanonicalIsUnique }
     ensures tells { CanonicalTellsMaps }
+{}
+
+/// There is one answer to a rotation and a root, but for want of memory; nothing is computed.
+#[tactic(auto, using(crate::proofs::UniqueParts::one_map_answer))]
+pub fn map_answer_is_unique()
+    ensures { HasOneMapAnswer }
 {}

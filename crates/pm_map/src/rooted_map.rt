@@ -1,6 +1,8 @@
-ghost use Rattle.std.specs.Prelude.{◌≡◌, ℕ, ◌*◌, length};
-ghost use Rattle.pm_map.specs.Rotation.{IsRootedMap};
+ghost use Rattle.std.specs.Prelude.{◌≡◌, ℕ, ◌*◌, ◌<◌, length, slice_index};
+ghost use Rattle.pm_map.specs.Rotation.{IsRootedMap, structure_of, twin};
+ghost use Rattle.pm_map.specs.Structure.{face_next};
 
+use crate::darts::twin_of;
 use std::marker::Model;
 
 /// A rooted map of `E` edges. Its darts are `0` to `2E - 1`, the darts `2k` and `2k + 1` are twins, and the rotation
@@ -51,5 +53,28 @@ impl RootedMap {
         ensures valid { IsRootedMap self.now }
     {
         &self.sigma
+    }
+    /// The dart after dart `d` around its vertex.
+    pub fn next(&self, d: u32) -> u32
+        requires { d < length self.now.sigma }
+        ensures { result ≡ slice_index self.now.sigma d }
+    {
+        self.sigma[d as usize]
+    }
+
+    /// The other dart of the edge of dart `d`.
+    pub fn twin(&self, d: u32) -> u32
+        requires { d < length self.now.sigma }
+        ensures { result ≡ twin d }
+    {
+        twin_of(d)
+    }
+
+    /// The dart after dart `d` around its face: the one after the twin of `d` around the vertex of that twin.
+    pub fn face_next(&self, d: u32) -> u32
+        requires { d < length self.now.sigma }
+        ensures { result ≡ face_next (structure_of self.now) d }
+    {
+        self.sigma[twin_of(d) as usize]
     }
 }

@@ -6,9 +6,85 @@ use std::test::Fail;
 #[test]
 fn two_loops(rt: HostRuntime) -> Result<(), Fail> {
     let sigma = Vec::from_slice(rt.alloc(), &[1, 2, 3, 0])?;
-    let loops = RootedMap::of_rotation(sigma, 2);
+    let answer = RootedMap::from_parts(rt.alloc(), sigma, 2);
+    assert!(rt; answer.is_ok());
+    let Ok(loops) = answer else { return Ok(()) };
     assert_eq!(rt; loops.edges(), 2);
     assert_eq!(rt; loops.root(), 2);
     assert_eq!(rt; loops.sigma(), [1, 2, 3, 0].as_slice());
+    Ok(())
+}
+
+// The same loops: the other dart of an edge, and the way around a face.
+#[test]
+fn steps_of_two_loops(rt: HostRuntime) -> Result<(), Fail> {
+    let sigma = Vec::from_slice(rt.alloc(), &[1, 2, 3, 0])?;
+    let answer = RootedMap::from_parts(rt.alloc(), sigma, 2);
+    assert!(rt; answer.is_ok());
+    let Ok(loops) = answer else { return Ok(()) };
+    assert_eq!(rt; loops.next(3), 0);
+    assert_eq!(rt; loops.twin(2), 3);
+    assert_eq!(rt; loops.twin(1), 0);
+    assert_eq!(rt; loops.face_next(0), 2);
+    assert_eq!(rt; loops.face_next(1), 1);
+    Ok(())
+}
+
+#[test]
+fn loops_of_parts(rt: HostRuntime) -> Result<(), Fail> {
+    let sigma = Vec::from_slice(rt.alloc(), &[1, 2, 3, 0])?;
+    let answer = RootedMap::from_parts(rt.alloc(), sigma, 2);
+    assert!(rt; answer.is_ok());
+    let Ok(loops) = answer else { return Ok(()) };
+    assert_eq!(rt; loops.root(), 2);
+    assert_eq!(rt; loops.sigma(), [1, 2, 3, 0].as_slice());
+    Ok(())
+}
+
+#[test]
+fn no_dart(rt: HostRuntime) -> Result<(), Fail> {
+    let answer = RootedMap::from_parts(rt.alloc(), Vec::new(rt.alloc()), 0);
+    assert!(rt; answer.is_ok());
+    let Ok(none) = answer else { return Ok(()) };
+    assert_eq!(rt; none.edges(), 0);
+    assert_eq!(rt; none.root(), 0);
+    Ok(())
+}
+
+#[test]
+fn no_permutation(rt: HostRuntime) -> Result<(), Fail> {
+    let sigma = Vec::from_slice(rt.alloc(), &[1, 2, 2, 0])?;
+    let answer = RootedMap::from_parts(rt.alloc(), sigma, 0);
+    assert_eq!(rt; answer.err(), Some(MapRefusal::NotPermutation { dart: 3 }));
+    Ok(())
+}
+
+// Two vertices, 0 1 2 3 and 4 6 5 7, with two loops each.
+#[test]
+fn two_parts(rt: HostRuntime) -> Result<(), Fail> {
+    let sigma = Vec::from_slice(rt.alloc(), &[1, 2, 3, 0, 6, 7, 5, 4])?;
+    let answer = RootedMap::from_parts(rt.alloc(), sigma, 0);
+    assert_eq!(rt; answer.err(), Some(MapRefusal::NotConnected { dart: 4 }));
+    Ok(())
+}
+
+// One vertex with two loops that cross: one face, on a torus.
+#[test]
+fn torus(rt: HostRuntime) -> Result<(), Fail> {
+    let sigma = Vec::from_slice(rt.alloc(), &[2, 3, 1, 0])?;
+    let answer = RootedMap::from_parts(rt.alloc(), sigma, 0);
+    assert_eq!(rt; answer.err(), Some(MapRefusal::Genus { euler: 0 }));
+    Ok(())
+}
+
+// One edge above the limit.
+#[test]
+fn too_many(rt: HostRuntime) -> Result<(), Fail> {
+    let sigma = vec![in rt.alloc(); 0; 8_388_610]?;
+    let answer = RootedMap::from_parts(rt.alloc(), sigma, 0);
+    assert_eq!(rt;
+        answer.err(),
+        Some(MapRefusal::TooMany { edges: 4_194_305 })
+    );
     Ok(())
 }

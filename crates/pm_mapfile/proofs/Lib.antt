@@ -1,1 +1,9 @@
 pub mod PrintLemmas
+pub mod NumberLines
+pub mod TailLemmas
+pub mod ReadLemmas
+pub mod RoomLemmas
+pub mod FormLemmas
+pub mod FileLemmas
+pub mod ResidueLemmas
+pub mod AnswerLemmas

@@ -1,1 +1,4 @@
 pub mod MapText
+pub mod MapFile
+pub mod ReadText
+pub mod ReadFile

@@ -7,4 +7,5 @@ pub mod Partners
 mod Reading
 pub mod Rise
 mod Steps
+pub mod Straight
 mod Turns

@@ -2,7 +2,8 @@ use Rattle.std.proofs.Common.{ℕ, List, length, sym, ap, ◌∙◌, subst, arit
 use Rattle.std.specs.Prelude.{slice_index}
 use Rattle.pm_trees.specs.Word.{contour, IsBracketing}
 use Rattle.pm_close.specs.Twinning.{IsTwinList}
-use Rattle.pm_close.proofs.ClosedMap.{is_made, twin_list_twins, darts_permute, across_below, made_is_closed, made_is_rooted}
+use Rattle.pm_close.proofs.ClosedMap.{is_made, twin_list_twins, darts_permute, across_below, made_is_closed}
+use Rattle.pm_close.proofs.PlaneMap.{rooted_closure}
 use Rattle.pm_close.proofs.closing.close_tree.Goals as goal
 
 pub darts_of-requires-clause-twinning : goal.darts_of-requires-clause-twinning
@@ -27,7 +28,7 @@ of_rotation-requires c =
     let made = is_made (contour c.args.tree.now) c.in_ok-across.across.items c.deref-4.result.now c.in_ok-twins.twins.items c.deref-2.result.now c.in_ok-darts.darts.items
     c.deref-3.result.now c.in_ok-sigma.sigma.items c.in_ok-pairing.pairing c.deref-4.ensures.value c.deref-2.ensures.value c.deref-3.ensures.value
     c.in_ok-across.ensures c.in_ok-pairing.ensures c.in_ok-twins.ensures c.in_ok-darts.ensures.length c.in_ok-darts.ensures.each c.in_ok-sigma.ensures.length c.in_ok-sigma.ensures.each in
-    made_is_rooted _ _ _ _ _ _ made (omega arith) (omega (arith, c.letters-letters.ensures.valid.short))
+    rooted_closure c.args.tree.now _ c.letters-letters.ensures.valid c.in_default.ensures (made_is_closed _ _ _ _ _ _ made (omega arith))
 
 pub returns : goal.returns
 returns c =

@@ -1,4 +1,5 @@
-use Rattle.pm_close.proofs.RootedClosure.{one_closure, rooted_closure}
+use Rattle.pm_close.proofs.PlaneMap.{rooted_closure}
+use Rattle.pm_close.proofs.RootedClosure.{one_closure}
 use Rattle.pm_close.proofs.laws.closure_is_unique.Goals as goal
 
 pub returns : goal.returns

@@ -1,0 +1,95 @@
+-- Marks of the values of a list, and lists in which each number stands.
+use Rattle.std.proofs.Common.{◌≡◌, ℕ, ◌+◌, ◌<◌, inl, inr, Bool, true, false, Option, Some, None, List, length, get_or, set, sym, ◌∙◌, ap, subst, arith, length-set}
+use Rattle.std.proofs.lemmas.List.{get_or-set_same, get_or-set_other}
+use Rattle.std.proofs.lemmas.Bool.{cases_eq, false≢true}
+use Rattle.std.specs.Prelude.{MatchOption}
+use Rattle.pm_perm.specs.Permutation.{IsPermutationBelow, IsPermutationList}
+use Rattle.pm_perm.proofs.Permutations.{IsReached, reached}
+use Rattle.pm_perm.proofs.Inverse.{place_of, place_of-value}
+use Rattle.pm_map.specs.Meeting.{Stands}
+use Rattle.pm_map.specs.Marks.{AllMarked, NoneMarked, IsLeastUnmarked, MarksValues}
+use Rattle.pm_map.specs.Missing.{IsLeastMissing}
+
+-- what follows from what a clause says of each case
+pub MatchOption-weaker : {X : Type 0} (o : Option X) {P P' : Type 0} {Q Q' : X → Type 0} → MatchOption o P Q → (P → P') → ((x : X) → Q x → Q' x) → MatchOption o P' Q'
+MatchOption-weaker None m at_none at_some = at_none m
+MatchOption-weaker (Some x) m at_none at_some = at_some x m
+
+-- a function below a bound that reaches each number below it is a permutation
+pub onto_permutes : (bound : ℕ) (f : ℕ → ℕ) → ((y : ℕ) → y < bound → IsReached f bound y) → IsPermutationBelow bound f
+onto_permutes bound f onto =
+    let g : ℕ → ℕ = place_of f bound in
+    let back : (y : ℕ) → y < bound → (g y < bound) × (f (g y) ≡ y) = λ y h. place_of-value f bound y (onto y h) in
+    let p : IsPermutationBelow bound g = record {
+      stays = λ y h. (back y h).0;
+      injective = λ x y hx hy e. sym ((back x hx).1) ∙ ap f e ∙ (back y hy).1;
+    } in
+    let from : (k : ℕ) → k < bound → IsReached g bound k = λ k h. reached g bound k p h in
+    let value : (k : ℕ) (h : k < bound) → f k ≡ (from k h).from = λ k h. ap f (sym ((from k h).value)) ∙ (back ((from k h).from) ((from k h).below)).1 in
+    record {
+      stays = λ k h. subst (λ x. x < bound) (sym (value k h)) ((from k h).below);
+      injective = λ j k hj hk e. sym ((from j hj).value) ∙ ap g (sym (value j hj) ∙ e ∙ value k hk) ∙ (from k hk).value;
+    }
+
+-- a list in which each number below its length stands is a permutation
+pub standing_permutes : (values : List ℕ) → ((n : ℕ) → n < length values → Stands values n) → IsPermutationList values
+standing_permutes values all =
+    onto_permutes (length values) (λ k. get_or values k 0)
+    (λ y h. let s = all y h in record { from = s.0; below = s.1.within; value = s.1.here })
+
+-- nothing of the list is marked yet
+pub MarksValues-none : (values : List ℕ) (marks : List Bool) → NoneMarked marks → MarksValues values 0 marks
+MarksValues-none values marks none = record {
+  marked = λ k h within. absurd (omega arith);
+  stands = λ n is. absurd (false≢true (sym (none n) ∙ is));
+}
+
+-- the marks with one value more
+pub MarksValues-more : (values : List ℕ) (place : ℕ) (marks : List Bool) → MarksValues values place marks → place < length values
+    → get_or values place 0 < length marks → MarksValues values (place + 1) (set marks (get_or values place 0) true)
+MarksValues-more values place marks m within below =
+    let value : ℕ = get_or values place 0 in
+    let size : length (set marks value true) ≡ length marks = length-set marks value true in
+    record {
+      marked = λ k h inside. elim (cases_eq (get_or values k 0) value) [
+        | inl same ↦ ap (λ n. get_or (set marks value true) n false) same ∙ get_or-set_same marks value true false below
+        | inr other ↦ elim (cases_eq k place) [
+          | inl here ↦ absurd (other (ap (λ n. get_or values n 0) here))
+          | inr before ↦ get_or-set_other marks value (get_or values k 0) true false other ∙ m.marked k (omega (arith, before)) (omega (arith, size, inside))
+        ]
+      ];
+      stands = λ n is. elim (cases_eq n value) [
+        | inl same ↦ (place, record { within = within; here = sym same })
+        | inr other ↦ m.stands n (sym (get_or-set_other marks value n true false other) ∙ is)
+      ];
+    }
+
+-- a value past the marks is passed over
+pub MarksValues-past : (values : List ℕ) (place : ℕ) (marks : List Bool) → MarksValues values place marks
+    → (get_or values place 0 < length marks → ⊥) → MarksValues values (place + 1) marks
+MarksValues-past values place marks m past = record {
+  marked = λ k h inside. elim (cases_eq k place) [
+    | inl here ↦ absurd (past (subst (λ n. get_or values n 0 < length marks) here inside))
+    | inr before ↦ m.marked k (omega (arith, before)) inside
+  ];
+  stands = m.stands;
+}
+
+-- all are marked where the list is a permutation
+pub permutation_from_marks : (values : List ℕ) (marks : List Bool) → length marks ≡ length values → MarksValues values (length values) marks
+    → AllMarked marks → IsPermutationList values
+permutation_from_marks values marks size m all = standing_permutes values (λ n h. m.stands n (all n (omega arith)))
+
+-- the least number that isn't marked is the least that stands nowhere
+pub missing_from_marks : (values : List ℕ) (marks : List Bool) (n : ℕ) → length marks ≡ length values → MarksValues values (length values) marks
+    → IsLeastUnmarked marks n → IsLeastMissing values n
+missing_from_marks values marks n size m least = record {
+  within = omega (arith, least.within);
+  nowhere = λ s. nowhere_marked s;
+  least = λ k h. m.stands k (least.least k h);
+} where
+  nowhere_marked : Stands values n → ⊥
+  nowhere_marked s =
+      let inside : get_or values (s.0) 0 < length marks = subst (λ x. x < length marks) (sym (s.1.here)) least.within in
+      let marked : get_or marks n false ≡ true = subst (λ x. get_or marks x false ≡ true) (s.1.here) (m.marked (s.0) (s.1.within) inside) in
+      false≢true (sym least.unmarked ∙ marked)

@@ -1,0 +1,26 @@
+-- Twins among an even number of darts.
+use Rattle.std.proofs.Common.{◌≡◌, ℕ, ◌%◌, ◌<◌, List, length, arith}
+use Rattle.pm_perm.specs.Permutation.{IsPermutationList}
+use Rattle.pm_map.specs.Structure.{IsStructure}
+use Rattle.pm_map.specs.Rotation.{structure_of, twin}
+
+pub twin_stays : (darts d : ℕ) → darts % 2 ≡ 0 → d < darts → twin d < darts
+twin_stays darts d even h = omega arith
+
+pub twin_back : (d : ℕ) → twin (twin d) ≡ d
+twin_back d = omega arith
+
+pub twin_other : (d : ℕ) → twin d ≡ d → ⊥
+twin_other d e = omega arith
+
+-- a rotation of an even number of darts, with a root among them, makes a structure
+pub structure_of_parts : (sigma : List ℕ) (root : ℕ) → length sigma % 2 ≡ 0 → IsPermutationList sigma → (0 < length sigma → root < length sigma)
+    → (length sigma ≡ 0 → root ≡ 0) → IsStructure (structure_of (record { sigma = sigma; root = root }))
+structure_of_parts sigma root even turns stays none = record {
+  rotation = turns;
+  twin_stays = λ d h. twin_stays (length sigma) d even h;
+  twin_back = λ d h. twin_back d;
+  twin_other = λ d h. twin_other d;
+  root_stays = stays;
+  no_root = none;
+}

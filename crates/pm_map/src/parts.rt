@@ -1,0 +1,42 @@
+ghost use Rattle.std.specs.Prelude.{◌≡◌, ◌<◌, ◌≤◌, ◌%◌, ◌*◌, length};
+ghost use Rattle.pm_limits.specs.declared.TheConstants.{MAX_EDGES};
+ghost use Rattle.pm_map.specs.Parts.{IsMapAnswer};
+
+use crate::euler::euler_number;
+use crate::marks::least_missing;
+use crate::reaching::least_unreached;
+use crate::refusal::MapRefusal;
+use crate::rooted_map::RootedMap;
+use pm_limits::MAX_EDGES;
+use std::alloc::Global;
+
+impl RootedMap {
+    /// The map with this rotation and this root, in time linear in the darts. The root of the map without darts is `0`.
+    ///
+    /// # Errors
+    ///
+    /// The first rule that the rotation breaks, in the order of [`MapRefusal`], or `Memory`, which may come at any rotation.
+    pub fn from_parts(alloc: Global, sigma: Vec<u32>, root: u32) -> Result<RootedMap, MapRefusal>
+        requires even { length sigma.items % 2 ≡ 0 }
+        requires root { 0 < length sigma.items → root < length sigma.items }
+        requires no_root { length sigma.items ≡ 0 → root ≡ 0 }
+        ensures { IsMapAnswer sigma.items root result }
+    {
+        let edges = (sigma.len() / 2) as u64;
+        if edges > MAX_EDGES as u64 {
+            return Err(MapRefusal::TooMany { edges });
+        }
+        let mut marks = vec![in alloc; false; sigma.len()]?;
+        if let Some(dart) = least_missing(&sigma, &mut marks) {
+            return Err(MapRefusal::NotPermutation { dart });
+        }
+        if let Some(dart) = least_unreached(alloc, &sigma, root, &mut marks)? {
+            return Err(MapRefusal::NotConnected { dart });
+        }
+        let euler = euler_number(alloc, &sigma, &mut marks)?;
+        if euler != 2 {
+            return Err(MapRefusal::Genus { euler });
+        }
+        Ok(RootedMap::of_rotation(sigma, root))
+    }
+}

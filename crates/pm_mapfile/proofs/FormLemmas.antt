@@ -1,0 +1,134 @@
+-- Broken lines of map files, from those of what begins with a map text and those of what stands after it.
+use Rattle.std.proofs.Common.{◌≡◌, ℕ, ◌+◌, ◌-◌, ◌*◌, ◌<◌, List, [], ◌∷◌, ◌++◌, length, sym, ap, ◌∙◌, subst, inl, inr, arith, append_assoc, length-append}
+use Rattle.std.specs.Prelude.{All, codes}
+use Rattle.std.proofs.lemmas.Bool.{cases_lt}
+use Rattle.std.proofs.lemmas.List.{append-nil, append_cancel_left}
+use Rattle.std.proofs.lemmas.List.Elements.{All-head, All-tail}
+use Rattle.pm_text.specs.Broken.{newline, lines, first_lines, IsBrokenLine}
+use Rattle.pm_text.proofs.LineLemmas.{IsWholeLines, no_whole_lines, one_whole_line, first_lines-whole, first_lines-past, first_lines-fewer, begins_with_whole_lines}
+use Rattle.pm_mapfile.specs.MapText.{dart_words, vertex_line, vertex_lines, map_line}
+use Rattle.pm_mapfile.specs.MapFile.{MapLines, IsVertexLine, AreMapLines, lines_text}
+use Rattle.pm_mapfile.proofs.TailLemmas.{cut_alike, v_not_end, end_no_newline, vertex_no_newline, first_text, first_line_spelled, first_no_newline, whole_text}
+
+-- a front of a file that is valid alone, and with anything after it valid in a wider form
+pub record HasFront (narrow wide : List ℕ → Type 0) (file : List ℕ) : Type 0 where
+  pub front : List ℕ
+  pub count : ℕ
+  pub whole : IsWholeLines count front
+  pub rest : List ℕ
+  pub spelled : file ≡ front ++ rest
+  pub alone : narrow front
+  pub any : (other : List ℕ) → wide (front ++ other)
+
+-- what breaks the wider form breaks the narrower one at the same line
+pub broken_in_narrower : (narrow wide : List ℕ → Type 0) (bytes : List ℕ) (line : ℕ) → ((file : List ℕ) → narrow file → wide file) → ((file : List ℕ) → wide file → HasFront narrow wide file)
+    → IsBrokenLine wide bytes line → IsBrokenLine narrow bytes line
+broken_in_narrower narrow wide bytes line within fronts b = record {
+  broken = λ file valid. b.broken file (within file valid);
+  least = λ fewer less.
+      let g = b.least fewer less in
+      let f = fronts g.file g.is_valid in
+      let same : first_lines fewer bytes ≡ first_lines fewer (f.front ++ f.rest) = sym g.same ∙ ap (first_lines fewer) f.spelled in
+      elim (cases_lt f.count fewer) [
+        | inl past ↦
+            let goes_on = begins_with_whole_lines f.count f.front f.rest bytes f.whole (first_lines-fewer f.count fewer bytes (f.front ++ f.rest) (omega arith) same) in
+            absurd (b.broken (f.front ++ goes_on.tail) (f.any goes_on.tail) (ap (first_lines line) (sym goes_on.whole)))
+        | inr short ↦ record {
+          file = f.front;
+          is_valid = f.alone;
+          same = ap (first_lines fewer) (sym (append-nil f.front)) ∙ first_lines-whole f.count f.front [] f.rest fewer f.whole short ∙ sym same;
+        }
+      ];
+}
+
+-- files that begin with a front are told by what follows it: a broken line of that is one of the file
+pub broken_past_front : (valid past : List ℕ → Type 0) (count line : ℕ) (front rest : List ℕ) → IsWholeLines count front → ((other : List ℕ) → valid (front ++ other) → past other)
+    → ((other : List ℕ) → past other → valid (front ++ other)) → 0 < line → IsBrokenLine past rest line → IsBrokenLine valid (front ++ rest) (count + line)
+broken_past_front valid past count line front rest whole to from positive b = record {
+  broken = λ file is_valid same.
+      let goes_on = begins_with_whole_lines count front rest file whole (first_lines-fewer count (count + line) file (front ++ rest) (omega arith) same) in
+      let there = first_lines-past count line front goes_on.tail whole in
+      let here = first_lines-past count line front rest whole in
+      let pieces : whole.pieces ++ first_lines line goes_on.tail ≡ whole.pieces ++ first_lines line rest = sym there ∙ ap (first_lines (count + line)) (sym goes_on.whole) ∙ same ∙ here in
+      b.broken goes_on.tail (to goes_on.tail (subst valid goes_on.whole is_valid)) (append_cancel_left whole.pieces (first_lines line goes_on.tail) (first_lines line rest) pieces);
+  least = λ fewer less.
+      elim (cases_lt count fewer) [
+        | inl past_front ↦
+            let more = fewer - count in
+            let sum : count + more ≡ fewer = omega arith in
+            let g = b.least more (omega arith) in
+            record {
+              file = front ++ g.file;
+              is_valid = from g.file g.is_valid;
+              same = subst (λ n. first_lines n (front ++ g.file) ≡ first_lines n (front ++ rest)) sum
+                  (first_lines-past count more front g.file whole ∙ ap (λ l. whole.pieces ++ l) g.same ∙ sym (first_lines-past count more front rest whole));
+            }
+        | inr short ↦
+            let g = b.least 0 positive in
+            record {
+              file = front ++ g.file;
+              is_valid = from g.file g.is_valid;
+              same = first_lines-whole count front g.file rest fewer whole short;
+            }
+      ];
+}
+
+-- whole lines one after another
+whole_append : (n m : ℕ) (a b : List ℕ) → IsWholeLines n a → IsWholeLines m b → IsWholeLines (n + m) (a ++ b)
+whole_append n m a b one other = record {
+  pieces = one.pieces ++ other.pieces;
+  length_pieces = length-append one.pieces other.pieces ∙ (let sum : length one.pieces + length other.pieces ≡ n + m = omega (arith, one.length_pieces, other.length_pieces) in sum);
+  in_front = λ rest. ap lines (append_assoc a b rest) ∙ one.in_front (b ++ rest) ∙ ap (λ l. one.pieces ++ l) (other.in_front rest) ∙ sym (append_assoc one.pieces other.pieces (lines rest));
+}
+
+whole_vertices : (darts : ℕ) (vertices : List (List ℕ)) → All (IsVertexLine darts) vertices → IsWholeLines (length vertices) (vertex_lines vertices)
+whole_vertices darts [] each = no_whole_lines
+whole_vertices darts (v ∷ vertices) each =
+    let is = All-head (IsVertexLine darts) v vertices each in
+    let one = one_whole_line (codes "v" ++ dart_words v) (vertex_no_newline v is.fit) in
+    let all = whole_append 1 (length vertices) (vertex_line v) (vertex_lines vertices) one (whole_vertices darts vertices (All-tail (IsVertexLine darts) v vertices each)) in
+    subst (λ n. IsWholeLines n (vertex_lines (v ∷ vertices))) (let count : 1 + length vertices ≡ length (v ∷ vertices) = omega arith in count) all
+
+-- a map text is whole lines
+pub whole_map_text : (m : MapLines) → AreMapLines m → IsWholeLines (length m.vertices + 2) (lines_text m)
+whole_map_text m are =
+    let first = subst (IsWholeLines 1) (sym (first_line_spelled m.edges m.root)) (one_whole_line (first_text m.edges m.root) (first_no_newline m.edges m.root are.first)) in
+    let vertices = whole_vertices (2 * m.edges) m.vertices are.each in
+    let last = one_whole_line (codes "end") end_no_newline in
+    let front = whole_append 1 (length m.vertices) (map_line m.edges m.root) (vertex_lines m.vertices) first vertices in
+    let all = whole_append (1 + length m.vertices) 1 (map_line m.edges m.root ++ vertex_lines m.vertices) (codes "end\n") front last in
+    subst (λ n. IsWholeLines n (lines_text m)) (let count : 1 + length m.vertices + 1 ≡ length m.vertices + 2 = omega arith in count) all
+
+-- what stands after the line `end` is one
+after_vertices : (darts more : ℕ) (vs ws : List (List ℕ)) (a b : List ℕ) → All (IsVertexLine darts) vs → All (IsVertexLine more) ws
+    → vertex_lines vs ++ (codes "end" ++ newline ∷ a) ≡ vertex_lines ws ++ (codes "end" ++ newline ∷ b) → a ≡ b
+after_vertices darts more [] [] a b f g e = let alike = cut_alike (codes "end") (codes "end") a b end_no_newline end_no_newline e in alike.rest
+after_vertices darts more [] (w ∷ ws) a b f g e =
+    let is = All-head (IsVertexLine more) w ws g in
+    let tail = vertex_lines ws ++ (codes "end" ++ newline ∷ b) in
+    let grouped = append_assoc (vertex_line w) (vertex_lines ws) (codes "end" ++ newline ∷ b) ∙ append_assoc (codes "v" ++ dart_words w) (newline ∷ []) tail in
+    let alike = cut_alike (codes "end") (codes "v" ++ dart_words w) a tail end_no_newline (vertex_no_newline w is.fit) (e ∙ grouped) in
+    absurd (v_not_end (dart_words w) (sym alike.line))
+after_vertices darts more (v ∷ vs) [] a b f g e =
+    let is = All-head (IsVertexLine darts) v vs f in
+    let tail = vertex_lines vs ++ (codes "end" ++ newline ∷ a) in
+    let grouped = append_assoc (vertex_line v) (vertex_lines vs) (codes "end" ++ newline ∷ a) ∙ append_assoc (codes "v" ++ dart_words v) (newline ∷ []) tail in
+    let alike = cut_alike (codes "v" ++ dart_words v) (codes "end") tail b (vertex_no_newline v is.fit) end_no_newline (sym grouped ∙ e) in
+    absurd (v_not_end (dart_words v) alike.line)
+after_vertices darts more (v ∷ vs) (w ∷ ws) a b f g e =
+    let is = All-head (IsVertexLine darts) v vs f in
+    let is_w = All-head (IsVertexLine more) w ws g in
+    let tail = vertex_lines vs ++ (codes "end" ++ newline ∷ a) in
+    let tail_w = vertex_lines ws ++ (codes "end" ++ newline ∷ b) in
+    let grouped = append_assoc (vertex_line v) (vertex_lines vs) (codes "end" ++ newline ∷ a) ∙ append_assoc (codes "v" ++ dart_words v) (newline ∷ []) tail in
+    let grouped_w = append_assoc (vertex_line w) (vertex_lines ws) (codes "end" ++ newline ∷ b) ∙ append_assoc (codes "v" ++ dart_words w) (newline ∷ []) tail_w in
+    let alike = cut_alike (codes "v" ++ dart_words v) (codes "v" ++ dart_words w) tail tail_w (vertex_no_newline v is.fit) (vertex_no_newline w is_w.fit) (sym grouped ∙ e ∙ grouped_w) in
+    after_vertices darts more vs ws a b (All-tail (IsVertexLine darts) v vs f) (All-tail (IsVertexLine more) w ws g) alike.rest
+
+-- of two map texts with something after each that are the same bytes, the same stands after each
+pub after_alike : (m k : MapLines) (a b : List ℕ) → AreMapLines m → AreMapLines k → lines_text m ++ a ≡ lines_text k ++ b → a ≡ b
+after_alike m k a b one other e =
+    let tail = vertex_lines m.vertices ++ (codes "end" ++ newline ∷ a) in
+    let tail_k = vertex_lines k.vertices ++ (codes "end" ++ newline ∷ b) in
+    let alike = cut_alike (first_text m.edges m.root) (first_text k.edges k.root) tail tail_k (first_no_newline m.edges m.root one.first) (first_no_newline k.edges k.root other.first) (sym (whole_text m a) ∙ e ∙ whole_text k b) in
+    after_vertices (2 * m.edges) (2 * k.edges) m.vertices k.vertices a b one.each other.each alike.rest

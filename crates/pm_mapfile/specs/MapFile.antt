@@ -1,0 +1,108 @@
+-- Map files: which bytes are the text of a map, line by line. Whether the vertices make a map is no matter of the text.
+use Rattle.std.specs.Prelude.{◌≡◌, ℕ, ◌+◌, ◌*◌, ◌<◌, ◌≤◌, ◌^◌, List, [], ◌∷◌, ◌++◌, All, Option, Some, None, MatchOption, ⊤, length, map, take, codes}
+use Rattle.std.specs.List.{concat}
+use Rattle.pm_mapfile.specs.MapText.{dart_words, map_line, vertex_lines}
+
+-- what the lines of a map text say: the number of edges, the root, and the darts on the line of each vertex
+pub record MapLines : Type 0 where
+  pub edges : ℕ
+  pub root : ℕ
+  pub vertices : List (List ℕ)
+
+-- the numbers of a first line: both are numbers of 64 bits; the root is one of the darts, twice as many as edges, or
+-- both numbers are 0
+pub record IsFirstLine (edges root : ℕ) : Type 0 where
+  pub edges_fit : edges < 2 ^ 64
+  pub root_fits : root < 2 ^ 64
+  pub within : 0 < edges → root < 2 * edges
+  pub no_edge : edges ≡ 0 → root ≡ 0
+
+-- the numbers on the line of a vertex, where there are so many darts: at least one, each a dart and a number of 64 bits
+pub record IsVertexLine (darts : ℕ) (vertex : List ℕ) : Type 0 where
+  pub some : 0 < length vertex
+  pub below : All (λ dart. dart < darts) vertex
+  pub fit : All (λ dart. dart < 2 ^ 64) vertex
+
+-- the lines of a map text: the lines of all vertices have twice as many darts as there are edges
+pub record AreMapLines (m : MapLines) : Type 0 where
+  pub first : IsFirstLine m.edges m.root
+  pub each : All (IsVertexLine (2 * m.edges)) m.vertices
+  pub count : length (concat m.vertices) ≡ 2 * m.edges
+
+-- the bytes that say so: the first line, a line for each vertex, and the line `end`
+abbrev pub lines_text : MapLines → List ℕ
+lines_text m = map_line m.edges m.root ++ vertex_lines m.vertices ++ codes "end\n"
+
+-- a map text, and nothing more
+pub record IsMapFileText (bytes : List ℕ) : Type 0 where
+  pub lines : MapLines
+  pub are_lines : AreMapLines lines
+  pub spelled : bytes ≡ lines_text lines
+
+-- a map text, and anything after it
+pub record BeginsWithMapText (bytes : List ℕ) : Type 0 where
+  pub lines : MapLines
+  pub are_lines : AreMapLines lines
+  pub rest : List ℕ
+  pub spelled : bytes ≡ lines_text lines ++ rest
+
+-- the text is the tag and these numbers of 64 bits, a space before each; it stands without its newline
+pub record IsNumbersLine (tag text numbers : List ℕ) : Type 0 where
+  pub fit : All (λ number. number < 2 ^ 64) numbers
+  pub spelled : text ≡ tag ++ dart_words numbers
+
+-- the numbers of the line are appended
+pub record AppendsNumbers (tag text old new : List ℕ) : Type 0 where
+  pub numbers : List ℕ
+  pub is_line : IsNumbersLine tag text numbers
+  pub appended : new ≡ old ++ numbers
+
+-- the line is that of a vertex for which there is room among so many darts; its darts are appended, and how many they are
+pub record AppendsVertex (darts : ℕ) (text old new old_sizes new_sizes : List ℕ) : Type 0 where
+  pub vertex : List ℕ
+  pub line : IsNumbersLine (codes "v") text vertex
+  pub is_vertex : IsVertexLine darts vertex
+  pub appended : new ≡ old ++ vertex
+  pub room : length new ≤ darts
+  pub sized : new_sizes ≡ old_sizes ++ length vertex ∷ []
+
+-- the line is no such line
+abbrev pub HasNoRoomFor : ℕ → List ℕ → List ℕ → Type 0
+HasNoRoomFor darts text old =
+    (vertex : List ℕ) → IsNumbersLine (codes "v") text vertex → IsVertexLine darts vertex → length old + length vertex ≤ darts → ⊥
+
+-- the line is a first line, with these numbers
+pub record IsFirstText (text : List ℕ) (edges root : ℕ) : Type 0 where
+  pub first : IsFirstLine edges root
+  pub line : IsNumbersLine (codes "map") text (edges ∷ root ∷ [])
+
+-- what the map text at the front of the bytes says: the number of edges and the root, the darts of all lines one after
+-- another, and how many stand on each line; and the place after its last line
+pub record IsReadMap (bytes : List ℕ) (edges root : ℕ) (darts sizes : List ℕ) (after : ℕ) : Type 0 where
+  pub vertices : List (List ℕ)
+  pub are_lines : AreMapLines (record { edges = edges; root = root; vertices = vertices })
+  pub darts_are : darts ≡ concat vertices
+  pub sizes_are : sizes ≡ map length vertices
+  pub within : after ≤ length bytes
+  pub front : take after bytes ≡ lines_text (record { edges = edges; root = root; vertices = vertices })
+
+-- the residue line that a file has or hasn't: `residue` and numbers
+abbrev pub residue_text : Option (List ℕ) → List ℕ
+residue_text None = []
+residue_text (Some numbers) = codes "residue" ++ dart_words numbers ++ 10 ∷ []
+
+-- what stands after a map text in a map file: nothing, or a residue line whose numbers have 64 bits
+pub record IsResidue (residue : Option (List ℕ)) (bytes : List ℕ) : Type 0 where
+  pub fit : MatchOption residue ⊤ (λ numbers. All (λ number. number < 2 ^ 64) numbers)
+  pub spelled : bytes ≡ residue_text residue
+
+abbrev pub IsAfterMap : List ℕ → Type 0
+IsAfterMap bytes = (residue : Option (List ℕ)) × IsResidue residue bytes
+
+-- a map file: a map text, then at most one residue line, and nothing more
+pub record IsMapFile (bytes : List ℕ) : Type 0 where
+  pub lines : MapLines
+  pub are_lines : AreMapLines lines
+  pub rest : List ℕ
+  pub after : IsAfterMap rest
+  pub spelled : bytes ≡ lines_text lines ++ rest

@@ -1,0 +1,179 @@
+//! The lines of a map text.
+ghost use Rattle.std.specs.Prelude.{◌≡◌, ◌<◌, ◌^◌, ◌↔◌, ℕ, List, All, IsTrue, true, length, IfOk, MatchOption};
+ghost use Rattle.std.specs.Bool.{MatchBool};
+ghost use Rattle.pm_text.specs.Broken.{HasNoNewline};
+ghost use Rattle.pm_text.specs.Reading.{IsNextLine};
+ghost use Rattle.pm_mapfile.specs.MapFile.{IsFirstText, AppendsVertex, HasNoRoomFor};
+ghost use Rattle.pm_mapfile.specs.ReadText.{IsReadTextAnswer, IsReadAloneAnswer};
+
+use crate::numbers::read_numbers;
+use pm_text::{Line, Lines};
+use std::alloc::{AllocError, Global};
+
+/// Why bytes do not begin with the text of a map.
+#[derive(Clone, Copy, Debug, PartialEq, Eq)]
+pub(crate) enum TextRefusal {
+    /// There is no memory left. It may come at any bytes.
+    Memory,
+    /// The first line that breaks the form, counted from 1.
+    Text { line: u32 },
+}
+
+impl From<AllocError> for TextRefusal {
+    ghost use Rattle.pm_mapfile.specs.declared.read.TextRefusal.TheVariants.{Memory};
+
+    ghost from_gives = { λ _ refusal. refusal ≡ Memory };
+
+    fn from(_error: AllocError) -> TextRefusal {
+        TextRefusal::Memory
+    }
+}
+
+/// What the text of a map says, line by line. Whether it makes a map is not known.
+#[derive(Drop)]
+pub(crate) struct ReadText {
+    /// The number of edges.
+    pub edges: u64,
+    /// The root dart, below twice the number of edges, or 0 where there is none.
+    pub root: u64,
+    /// The darts of all vertices, one vertex after another: twice as many as edges, each below that.
+    pub darts: Vec<u64>,
+    /// How many darts each vertex has, at least one.
+    pub sizes: Vec<usize>,
+    /// The place after the line `end`, counted in bytes from the start.
+    pub after: usize,
+}
+
+// The numbers of a first line.
+#[derive(Clone, Copy)]
+struct FirstLine {
+    edges: u64,
+    root: u64,
+}
+
+/// Reads the text of a map at the front of `bytes`.
+///
+/// # Errors
+///
+/// `Text` exactly where `bytes` does not begin with the text of a map, with the first line that breaks the form;
+/// `Memory` where memory runs out.
+pub(crate) fn read_map_text(alloc: Global, bytes: &[u8]) -> Result<ReadText, TextRefusal>
+    requires { length bytes.now < 2 ^ 32 }
+    ensures { IsReadTextAnswer bytes.now result }
+{
+    let mut lines = Lines::new(bytes);
+    let Some(line) = next_ended(&mut lines) else {
+        return Err(TextRefusal::Text { line: 1 });
+    };
+    let Some(first) = read_first(alloc, line.text)? else {
+        return Err(TextRefusal::Text { line: 1 });
+    };
+    let limit = 2 * u128::from(first.edges);
+    let mut darts = Vec::new(alloc);
+    let mut sizes = Vec::new(alloc);
+    'lines: while let Some(line) = next_ended(&mut lines) {
+        if line.text == b"end".as_slice() {
+            if darts.len() as u128 != limit {
+                break 'lines;
+            }
+            return Ok(ReadText {
+                edges: first.edges,
+                root: first.root,
+                darts,
+                sizes,
+                after: line.after,
+            });
+        }
+        if !read_vertex(line.text, limit, &mut darts, &mut sizes)? {
+            break 'lines;
+        }
+    }
+    Err(TextRefusal::Text {
+        line: sizes.len() as u32 + 2,
+    })
+}
+
+/// Reads the text of a map that is all of `bytes`.
+///
+/// # Errors
+///
+/// `Text` exactly where `bytes` is not the text of a map and nothing more, with the first line that breaks the form;
+/// `Memory` where memory runs out.
+pub(crate) fn read_lone_map_text(alloc: Global, bytes: &[u8]) -> Result<ReadText, TextRefusal>
+    requires { length bytes.now < 2 ^ 32 }
+    ensures { IsReadAloneAnswer bytes.now result }
+{
+    let text = match read_map_text(alloc, bytes) {
+        Ok(text) => text,
+        Err(refusal) => return Err(refusal),
+    };
+    if text.after < bytes.len() {
+        return Err(TextRefusal::Text {
+            line: text.sizes.len() as u32 + 3,
+        });
+    }
+    Ok(text)
+}
+
+// The next line, or `None` where no line is left that ends.
+pub(crate) fn next_ended<'a>(lines: &mut Lines<'a>) -> Option<Line<'a>>
+    ensures { MatchOption result (HasNoNewline lines.old.rest)
+        (λ line. IsNextLine lines.old lines.new line.text.now true line.after) }
+{
+    let line = lines.next()?;
+    if line.ended { Some(line) } else { None }
+}
+
+// The numbers of the first line of a map text, or `None` where the line is no such line.
+fn read_first(alloc: Global, text: &[u8]) -> Result<Option<FirstLine>, AllocError>
+    ensures { IfOk result (λ first. MatchOption first
+        ((edges root : ℕ) → IsFirstText text.now edges root → ⊥)
+        (λ line. IsFirstText text.now line.edges line.root)) }
+{
+    let mut numbers = Vec::new(alloc);
+    if !read_numbers(b"map", text, &mut numbers)? || numbers.len() != 2 {
+        return Ok(None);
+    }
+    let (edges, root) = (numbers[0], numbers[1]);
+    let is_root = if edges == 0 {
+        root == 0
+    } else {
+        u128::from(root) < 2 * u128::from(edges)
+    };
+    if is_root {
+        Ok(Some(FirstLine { edges, root }))
+    } else {
+        Ok(None)
+    }
+}
+
+// Appends the darts of the line of a vertex, and how many they are, where there is room for so many; or answers false
+// exactly where the line is none or there is no room. Where it answers false, some of the darts may be appended.
+fn read_vertex(
+    text: &[u8],
+    room: u128,
+    darts: &mut Vec<u64>,
+    sizes: &mut Vec<usize>,
+) -> Result<bool, AllocError>
+    ensures { IfOk result (λ is_vertex. MatchBool is_vertex
+        (AppendsVertex room text.now darts.old.items darts.new.items sizes.old.items sizes.new.items)
+        (HasNoRoomFor room text.now darts.old.items × (sizes.new.items ≡ sizes.old.items))) }
+{
+    let before = darts.len();
+    if !read_numbers(b"v", text, darts)? {
+        return Ok(false);
+    }
+    let size = darts.len() - before;
+    if size == 0 || darts.len() as u128 > room || !are_below(&darts[before..], room) {
+        return Ok(false);
+    }
+    sizes.push(size)?;
+    Ok(true)
+}
+
+// Whether each of the numbers is below the bound.
+fn are_below(numbers: &[u64], bound: u128) -> bool
+    ensures { IsTrue result ↔ All (λ number. number < bound) numbers.now }
+{
+    numbers.iter().all(|number| u128::from(*number) < bound)
+}
