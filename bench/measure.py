@@ -87,11 +87,12 @@ def megabytes(kilobytes, floor):
     return f"{kilobytes * 1024 / 1e6:.0f}"
 
 
-def machine():
+def machine(best_of):
+    """Prints what the machine is, and of how many runs the best counts."""
     with open("/proc/meminfo", encoding="ascii") as lines:
         kilobytes = int(lines.readline().split()[1])
     load = os.getloadavg()[0]
-    print(f"{os.cpu_count()} processors, {kilobytes * 1024 / 2**30:.0f} GiB, load {load:.1f}. Best of {ROUNDS}.\n")
+    print(f"{os.cpu_count()} processors, {kilobytes * 1024 / 2**30:.0f} GiB, load {load:.1f}. Best of {best_of}.\n")
 
 
 def start_up(programs):
@@ -162,7 +163,7 @@ def close_table(programs, folder, kind, sizes, floor):
 def main():
     folder = sys.argv[1]
     programs = list(zip(["program", "other"], map(os.path.abspath, sys.argv[2:])))
-    machine()
+    machine(ROUNDS)
     floor, right = start_up(programs)
     for kind, sizes in [("deep", DEEP_EDGES), ("wide", WIDE_EDGES)]:
         right = close_table(programs, folder, kind, sizes, floor) and right
