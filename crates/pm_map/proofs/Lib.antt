@@ -1,6 +1,7 @@
 pub mod CanonicalNames
 pub mod CarriedMeeting
 pub mod CarriedStructure
+pub mod CycleSizes
 pub mod FaceLemmas
 pub mod MarksLemmas
 pub mod SearchLemmas

@@ -1,6 +1,7 @@
 pub mod Canonical
 pub mod CanonicalLaws
 pub mod Marks
+pub mod CycleSize
 pub mod Faces
 pub mod Meeting
 pub mod Missing

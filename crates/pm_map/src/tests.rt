@@ -77,6 +77,52 @@ fn torus(rt: HostRuntime) -> Result<(), Fail> {
     Ok(())
 }
 
+// Two loops side by side have three faces, and the map without darts has one vertex and one face.
+#[test]
+fn counts_of_loops(rt: HostRuntime) -> Result<(), Fail> {
+    let sigma = Vec::from_slice(rt.alloc(), &[1, 2, 3, 0])?;
+    let answer = RootedMap::from_parts(rt.alloc(), sigma, 2);
+    assert!(rt; answer.is_ok());
+    let Ok(loops) = answer else { return Ok(()) };
+    let mut marks = vec![in rt.alloc(); false; loops.sigma().len()]?;
+    assert_eq!(rt;
+        loops.counts(&mut marks),
+        Counts {
+            vertices: 1,
+            edges: 2,
+            faces: 3
+        }
+    );
+    let answer = RootedMap::from_parts(rt.alloc(), Vec::new(rt.alloc()), 0);
+    assert!(rt; answer.is_ok());
+    let Ok(none) = answer else { return Ok(()) };
+    let mut marks = vec![in rt.alloc(); false; none.sigma().len()]?;
+    assert_eq!(rt;
+        none.counts(&mut marks),
+        Counts {
+            vertices: 1,
+            edges: 0,
+            faces: 1
+        }
+    );
+    Ok(())
+}
+
+// The outer face of two loops side by side has two darts, the inner faces one each; the vertex has all four.
+#[test]
+fn degrees_of_loops(rt: HostRuntime) -> Result<(), Fail> {
+    let sigma = Vec::from_slice(rt.alloc(), &[1, 2, 3, 0])?;
+    let answer = RootedMap::from_parts(rt.alloc(), sigma, 2);
+    assert!(rt; answer.is_ok());
+    let Ok(loops) = answer else { return Ok(()) };
+    let mut degrees = vec![in rt.alloc(); 9u32; loops.sigma().len()]?;
+    loops.vertex_degrees(&mut degrees);
+    assert_eq!(rt; degrees.as_slice(), [4, 4, 4, 4].as_slice());
+    loops.face_degrees(&mut degrees);
+    assert_eq!(rt; degrees.as_slice(), [2, 1, 2, 1].as_slice());
+    Ok(())
+}
+
 // One edge above the limit.
 #[test]
 fn too_many(rt: HostRuntime) -> Result<(), Fail> {
