@@ -1,5 +1,5 @@
 #!/usr/bin/env bash
-# Measures the calls on long lists, code, arrange, grow and ungrow: bench/lists.sh [PROGRAM]
+# Measures the calls on long lists, code, arrange, parts, grow and ungrow: bench/lists.sh [PROGRAM]
 #
 # PROGRAM is the program of crates/pm_bench; without it, that one is proved and built where it isn't yet.
 #

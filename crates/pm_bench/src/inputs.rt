@@ -1,5 +1,5 @@
 //! Inputs made by arithmetic, the same in each run.
-ghost use Rattle.std.specs.Prelude.{◌≡◌, ◌<◌, ◌≤◌, length, IfOk};
+ghost use Rattle.std.specs.Prelude.{◌≡◌, ◌*◌, ◌<◌, ◌≤◌, length, IfOk};
 ghost use Rattle.pm_lehmer.specs.Lehmer.{IsArrangementCode};
 ghost use Rattle.pm_remy.specs.Growth.{IsChoices};
 
@@ -106,4 +106,20 @@ fn choose_path(choices: &mut [u64])
     'places: for place in 0..choices.len() {
         choices[place] = 4 * place as u64;
     }
+}
+
+/// The rotation of so many loops side by side at one vertex.
+///
+/// # Errors
+///
+/// `AllocError` where memory runs out.
+pub fn loops(alloc: Global, edges: usize) -> Result<Vec<u32>, AllocError>
+    requires { edges ≤ MAX_EDGES }
+    ensures length { IfOk result (λ v. length v.items ≡ 2 * edges) }
+{
+    let mut sigma = vec![in alloc; 0u32; 2 * edges]?;
+    for dart in 1..2 * edges {
+        sigma[dart - 1] = dart as u32;
+    }
+    Ok(sigma)
 }

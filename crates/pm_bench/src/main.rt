@@ -1,7 +1,7 @@
 //! Runs one call of the libraries on an input that is made by arithmetic, and prints a checksum of the answer, so that
 //! the call can be measured from outside.
 //!
-//! The words behind the program's name are the call, `code`, `arrange`, `grow` or `ungrow`, then the size of its input,
+//! The words behind the program's name are the call, `code`, `arrange`, `parts`, `grow` or `ungrow`, then the size of its input,
 //! and for `grow` and `ungrow` a shape, `drawn` or `path`. With other words the status is 1, and a line goes to standard
 //! error.
 #![tactic(auto)]
@@ -31,7 +31,9 @@ fn main(rt: HostRuntime) -> ExitCode {
         return ExitCode::FAILURE;
     };
     let Some(order) = Order::of_words(&words) else {
-        let _ = eprintln!(rt; "pm_bench: words: code N, arrange N, grow N SHAPE, ungrow N SHAPE");
+        let _ = eprintln!(rt;
+            "pm_bench: words: code N, arrange N, parts N, grow N SHAPE, ungrow N SHAPE"
+        );
         return ExitCode::FAILURE;
     };
     let Ok(sum) = work::run(rt.alloc(), &order) else {

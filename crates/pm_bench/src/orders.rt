@@ -24,21 +24,23 @@ pub enum Call {
     Grow(Shape),
     /// The same, and then the choices of the tree.
     Ungrow(Shape),
+    /// The map of a rotation.
+    Parts,
 }
 
-/// A call, and how many entries or choices its input has.
+/// A call, and how many entries, choices or edges its input has.
 #[derive(Clone, Copy, Debug)]
 pub struct Order {
     /// The call.
     pub call: Call,
-    /// The number of entries or choices.
+    /// The number of entries, choices or edges.
     pub size: u32,
     ghost few: { size ≤ MAX_EDGES },
 }
 
 impl Order {
-    /// The order that the words spell: `code N`, `arrange N`, `grow N SHAPE` or `ungrow N SHAPE`, where N is at most
-    /// `MAX_EDGES` and SHAPE is `drawn` or `path`.
+    /// The order that the words spell: `code N`, `arrange N`, `parts N`, `grow N SHAPE` or `ungrow N SHAPE`, where N is
+    /// at most `MAX_EDGES` and SHAPE is `drawn` or `path`.
     pub fn of_words(words: &[String]) -> Option<Order> {
         if words.len() < 2 {
             return None;
@@ -57,6 +59,7 @@ fn call_of(name: &String, rest: &[String]) -> Option<Call> {
     match name.as_str() {
         "code" if rest.is_empty() => Some(Call::Code),
         "arrange" if rest.is_empty() => Some(Call::Arrange),
+        "parts" if rest.is_empty() => Some(Call::Parts),
         "grow" => Some(Call::Grow(shape_of(rest)?)),
         "ungrow" => Some(Call::Ungrow(shape_of(rest)?)),
         _ => None,

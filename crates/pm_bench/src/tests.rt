@@ -11,6 +11,7 @@ fn checksums_of_fifty(rt: HostRuntime) -> Result<(), Fail> {
         (Call::Grow(Shape::Drawn), 17_889_168_902_009_056_451),
         (Call::Grow(Shape::Path), 1_426_907_975_712_174_553),
         (Call::Ungrow(Shape::Drawn), 18_230_380_051_386_874_815),
+        (Call::Parts, 12_701_540_523_255_620_110),
         (Call::Ungrow(Shape::Path), 13_186_486_132_531_183_716),
     ];
     for (call, expected) in rows {

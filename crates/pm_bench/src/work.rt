@@ -1,10 +1,11 @@
 //! The calls, each with a checksum of its answer.
 ghost use Rattle.std.specs.Prelude.{◌≤◌};
 
-use crate::inputs::{choices, different_numbers, drawn_code};
+use crate::inputs::{choices, different_numbers, drawn_code, loops};
 use crate::orders::{Call, Order, Shape};
 use pm_lehmer::{arrange, code};
 use pm_limits::MAX_EDGES;
+use pm_map::{MapRefusal, RootedMap};
 use pm_remy::{LabelTree, grow, labels, shape, ungrow};
 use std::alloc::{AllocError, Global};
 
@@ -33,6 +34,18 @@ pub fn run(alloc: Global, order: &Order) -> Result<u64, AllocError> {
             let choices = ungrow(alloc, &tree)?;
             Ok(checksum(&choices))
         }
+        Call::Parts => parts_checksum(alloc, size),
+    }
+}
+
+// The checksum of the rotation of the map of that many loops, and 0 where they make no map.
+fn parts_checksum(alloc: Global, size: usize) -> Result<u64, AllocError>
+    requires { size ≤ MAX_EDGES }
+{
+    match RootedMap::from_parts(alloc, loops(alloc, size)?, 0) {
+        Ok(map) => Ok(narrow_checksum(map.sigma())),
+        Err(MapRefusal::Memory) => Err(AllocError),
+        Err(_) => Ok(0),
     }
 }
 
