@@ -1,5 +1,5 @@
 //! Inputs made by arithmetic, the same in each run.
-ghost use Rattle.std.specs.Prelude.{◌≡◌, ◌*◌, ◌<◌, ◌≤◌, length, IfOk};
+ghost use Rattle.std.specs.Prelude.{◌≡◌, ℕ, suc, ◌*◌, ◌%◌, ◌<◌, ◌≤◌, length, slice_index, IfOk};
 ghost use Rattle.pm_lehmer.specs.Lehmer.{IsArrangementCode};
 ghost use Rattle.pm_remy.specs.Growth.{IsChoices};
 
@@ -116,10 +116,20 @@ fn choose_path(choices: &mut [u64])
 pub fn loops(alloc: Global, edges: usize) -> Result<Vec<u32>, AllocError>
     requires { edges ≤ MAX_EDGES }
     ensures length { IfOk result (λ v. length v.items ≡ 2 * edges) }
+    ensures around { IfOk result (λ v. (dart : ℕ) → dart < 2 * edges → slice_index v.items dart ≡ suc dart % (2 * edges)) }
 {
     let mut sigma = vec![in alloc; 0u32; 2 * edges]?;
-    for dart in 1..2 * edges {
-        sigma[dart - 1] = dart as u32;
-    }
+    go_around(&mut sigma);
     Ok(sigma)
+}
+
+// Lets each dart be followed by the next, and the last by the first.
+fn go_around(sigma: &mut [u32])
+    requires few { length sigma.old ≤ 2 * MAX_EDGES }
+    ensures length { length sigma.new ≡ length sigma.old }
+    ensures around { (dart : ℕ) → dart < length sigma.old → slice_index sigma.new dart ≡ suc dart % length sigma.old }
+{
+    'darts: for dart in 0..sigma.len() {
+        sigma[dart] = ((dart + 1) % sigma.len()) as u32;
+    }
 }
