@@ -5,7 +5,7 @@ use Rattle.pm_perm.specs.Cycles.{cycles}
 use Rattle.pm_perm.proofs.Renumbered.{cycles-renumbered}
 use Rattle.pm_map.specs.Structure.{Structure, IsStructure, IsClosedSet, IsConnected, CarriesTo, face_next}
 use Rattle.pm_map.specs.Plane.{HasEulerTwo}
-use Rattle.pm_perm.proofs.Inverse.{place_of, place_of-stays, value-place_of}
+use Rattle.pm_perm.proofs.InverseLemmas.{place_of, place_of-stays, value-place_of}
 
 -- a dart of the second structure comes from one of the first, and so do its next and its twin
 record ComesFrom (f : ℕ → ℕ) (a b : Structure) (e : ℕ) : Type 0 where

@@ -5,7 +5,7 @@ use Rattle.std.proofs.lemmas.Bool.{cases_eq, false≢true}
 use Rattle.std.specs.Prelude.{MatchOption}
 use Rattle.pm_perm.specs.Permutation.{IsPermutationBelow, IsPermutationList}
 use Rattle.pm_perm.proofs.Permutations.{IsReached, reached}
-use Rattle.pm_perm.proofs.Inverse.{place_of, place_of-value}
+use Rattle.pm_perm.proofs.InverseLemmas.{place_of, place_of-value}
 use Rattle.pm_map.specs.Meeting.{Stands}
 use Rattle.pm_map.specs.Marks.{AllMarked, NoneMarked, IsLeastUnmarked, MarksValues}
 use Rattle.pm_map.specs.Missing.{IsLeastMissing}

@@ -2,7 +2,7 @@
 use Rattle.std.proofs.Common.{◌≡◌, ℕ, ◌<◌, refl, sym, ap, ◌∙◌, subst}
 use Rattle.pm_perm.specs.Permutation.{IsPermutationBelow}
 use Rattle.pm_map.specs.Structure.{Structure, IsStructure, CarriesTo, Same}
-use Rattle.pm_perm.proofs.Inverse.{place_of, place_of-stays, place_of-permutes, place_of-of_value, value-place_of}
+use Rattle.pm_perm.proofs.InverseLemmas.{place_of, place_of-stays, place_of-permutes, place_of-of_value, value-place_of}
 
 -- a structure is the same as itself
 pub same_as_itself : (a : Structure) → Same a a

@@ -1,6 +1,6 @@
 pub mod Checks
 pub mod Counts
-pub mod Inverse
+pub mod InverseLemmas
 pub mod LeaderMaps
 pub mod LeadersWritten
 pub mod Merged

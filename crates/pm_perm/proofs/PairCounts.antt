@@ -5,7 +5,7 @@ use Rattle.pm_perm.specs.Count.{count_below}
 use Rattle.pm_perm.specs.Permutation.{IsPermutationBelow}
 use Rattle.pm_perm.specs.Pairs.{IsInvolutionBelow, pairs}
 use Rattle.pm_perm.proofs.Counts.{count_below-into, count_below-same, count_below-without}
-use Rattle.pm_perm.proofs.Inverse.{place_of}
+use Rattle.pm_perm.proofs.InverseLemmas.{place_of}
 use Rattle.pm_perm.proofs.Renumbered.{IsRenumbered, renumbered-back}
 use Rattle.pm_perm.proofs.PartPairs.{involution-permutes}
 

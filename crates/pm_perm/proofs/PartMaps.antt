@@ -8,7 +8,7 @@ use Rattle.pm_perm.specs.Exchange.{IsExchangeBelow}
 use Rattle.pm_perm.specs.Pairs.{IsInvolutionBelow, pairs}
 use Rattle.pm_perm.specs.PartMap.{PartMap, IsPartMap, part_face, part_vertices, part_edges, part_faces, IsPartClosed, ReachesAll, IsPartConnected, IsJoined, CarriesPart}
 use Rattle.pm_perm.specs.PartMapLaws.{JoinedCounts, JoinKeeps, CutKeeps, RenumberingKeeps}
-use Rattle.pm_perm.proofs.Inverse.{place_of, place_of-permutes, value-place_of}
+use Rattle.pm_perm.proofs.InverseLemmas.{place_of, place_of-permutes, value-place_of}
 use Rattle.pm_perm.proofs.Repeats.{repeated-inside}
 use Rattle.pm_perm.proofs.SameCycle.{leader-in_cycle, cycles-same}
 use Rattle.pm_perm.proofs.Merged.{exchange-back, exchange-permutes, IsMerged, exchange-merges}

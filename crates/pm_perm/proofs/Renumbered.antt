@@ -8,7 +8,7 @@ use Rattle.pm_perm.specs.Cycles.{leader, cycles}
 use Rattle.pm_perm.specs.Exchange.{IsProductBelow}
 use Rattle.pm_perm.specs.Pairs.{IsRingBelow}
 use Rattle.pm_perm.proofs.Counts.{count_below-into}
-use Rattle.pm_perm.proofs.Inverse.{place_of, place_of-permutes, value-place_of, place_of-of_value}
+use Rattle.pm_perm.proofs.InverseLemmas.{place_of, place_of-permutes, value-place_of, place_of-of_value}
 use Rattle.pm_perm.proofs.LeaderMaps.{IsKeptBelow, IsLeaderMap, leader-map, leader_maps-agree, leader_map-inside, leader_map-twice, cycles-count}
 
 -- p carries f to g: what follows d under f goes to what follows p d under g

@@ -4,13 +4,14 @@
 mod checking;
 mod counting;
 mod exchanging;
-pub mod inverting;
+mod inverting;
 mod laws;
 mod leading;
 
 pub use checking::is_permutation;
 pub use counting::count_cycles;
 pub use exchanging::exchange;
+pub use inverting::inverse;
 pub use laws::{
     cutting_merges_faces, exchange_splits_or_joins, joining_makes_a_face, nested_pairs_split,
     pairs_split_at_most, renumbering_keeps_cycles, renumbering_keeps_part_maps,

@@ -1,4 +1,3 @@
-use super::inverting::inverse;
 use super::*;
 use std::test::Fail;
 
