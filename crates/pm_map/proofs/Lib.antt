@@ -2,10 +2,13 @@ pub mod CanonicalNames
 pub mod CarriedMeeting
 pub mod CarriedStructure
 pub mod CycleSizes
+pub mod DegreeRules
 pub mod FaceLemmas
+pub mod FaceWalkLemmas
 pub mod MarksLemmas
-pub mod SearchLemmas
 pub mod SameMaps
+pub mod SearchLemmas
+pub mod SimpleLemmas
 pub mod StandsLemmas
 pub mod TwinLemmas
 pub mod UniqueCanonical

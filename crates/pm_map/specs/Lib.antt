@@ -1,8 +1,14 @@
 pub mod Canonical
 pub mod CanonicalLaws
-pub mod Marks
+pub mod ClassRules
+pub mod Classes
 pub mod CycleSize
+pub mod DegreeScan
+pub mod Ends
+pub mod FaceDistance
+pub mod FaceWalk
 pub mod Faces
+pub mod Marks
 pub mod Meeting
 pub mod Missing
 pub mod Parts
@@ -10,4 +16,5 @@ pub mod Plane
 pub mod Reached
 pub mod Rotation
 pub mod Search
+pub mod Simple
 pub mod Structure

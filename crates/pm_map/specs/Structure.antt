@@ -25,6 +25,10 @@ pub record IsStructure (s : Structure) : Type 0 where
 abbrev pub face_next : Structure → ℕ → ℕ
 face_next s d = s.next (s.twin d)
 
+-- the dual structure: its vertices are the faces
+abbrev pub dual : Structure → Structure
+dual s = record { darts = s.darts; next = face_next s; twin = s.twin; root = s.root }
+
 -- a set of darts, told by a test, that holds with a dart the next one and the twin
 pub record IsClosedSet (s : Structure) (holds : ℕ → Bool) : Type 0 where
   pub under_next : (d : ℕ) → d < s.darts → IsTrue (holds d) → IsTrue (holds (s.next d))

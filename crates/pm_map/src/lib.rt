@@ -1,18 +1,25 @@
 //! Rooted maps: darts with a rotation, in which the darts `2k` and `2k + 1` are twins.
 #![tactic(auto)]
 
+mod admitted;
+mod class_refusal;
 mod counting;
 mod darts;
 mod degrees;
 mod euler;
+mod face_walk;
 mod laws;
 mod marks;
 mod parts;
 mod reaching;
 mod refusal;
 mod rooted_map;
+mod simple;
 
+pub use admitted::Degrees;
+pub use class_refusal::ClassRefusal;
 pub use counting::Counts;
+pub use face_walk::FaceWalk;
 pub use laws::{canonical_is_unique, map_answer_is_unique};
 pub use refusal::MapRefusal;
 pub use rooted_map::RootedMap;

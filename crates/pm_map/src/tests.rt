@@ -134,3 +134,65 @@ fn too_many(rt: HostRuntime) -> Result<(), Fail> {
     );
     Ok(())
 }
+
+// A tetrahedron has no loop and no double edge. Two loops at one vertex have loops, and two edges between two vertices
+// are double.
+#[test]
+fn simple_or_not(rt: HostRuntime) -> Result<(), Fail> {
+    let sigma = Vec::from_slice(rt.alloc(), &[2, 6, 4, 9, 0, 11, 8, 5, 1, 10, 3, 7])?;
+    let answer = RootedMap::from_parts(rt.alloc(), sigma, 0);
+    assert!(rt; answer.is_ok());
+    let Ok(tetrahedron) = answer else {
+        return Ok(())
+    };
+    assert_eq!(rt; tetrahedron.is_simple(rt.alloc())?, true);
+    let sigma = Vec::from_slice(rt.alloc(), &[1, 2, 3, 0])?;
+    let answer = RootedMap::from_parts(rt.alloc(), sigma, 0);
+    assert!(rt; answer.is_ok());
+    let Ok(loops) = answer else { return Ok(()) };
+    assert_eq!(rt; loops.is_simple(rt.alloc())?, false);
+    let sigma = Vec::from_slice(rt.alloc(), &[2, 3, 0, 1])?;
+    let answer = RootedMap::from_parts(rt.alloc(), sigma, 0);
+    assert!(rt; answer.is_ok());
+    let Ok(double) = answer else { return Ok(()) };
+    assert_eq!(rt; double.is_simple(rt.alloc())?, false);
+    let answer = RootedMap::from_parts(rt.alloc(), Vec::new(rt.alloc()), 0);
+    assert!(rt; answer.is_ok());
+    let Ok(none) = answer else { return Ok(()) };
+    assert_eq!(rt; none.is_simple(rt.alloc())?, true);
+    Ok(())
+}
+
+// The faces of two loops side by side are 0 2, 1 and 3.
+#[test]
+fn walks_around_faces(rt: HostRuntime) -> Result<(), Fail> {
+    let sigma = Vec::from_slice(rt.alloc(), &[1, 2, 3, 0])?;
+    let answer = RootedMap::from_parts(rt.alloc(), sigma, 0);
+    assert!(rt; answer.is_ok());
+    let Ok(loops) = answer else { return Ok(()) };
+    let mut outer = loops.face_walk(2);
+    assert_eq!(rt; outer.next(), Some(2));
+    assert_eq!(rt; outer.next(), Some(0));
+    assert_eq!(rt; outer.next(), None);
+    assert_eq!(rt; outer.next(), None);
+    let inner: Vec<u32> = loops.face_walk(3).collect(rt.alloc())?;
+    assert_eq!(rt; inner.as_slice(), [3].as_slice());
+    Ok(())
+}
+
+// A vertex of degree 2, with the darts 0 and 2, and one of degree 4. The faces are 0 3, 1 2 4 and 5.
+#[test]
+fn other_degrees(rt: HostRuntime) -> Result<(), Fail> {
+    let sigma = Vec::from_slice(rt.alloc(), &[2, 3, 0, 4, 5, 1])?;
+    let answer = RootedMap::from_parts(rt.alloc(), sigma, 0);
+    assert!(rt; answer.is_ok());
+    let Ok(map) = answer else { return Ok(()) };
+    let four = Degrees::Exactly { degree: 4 };
+    assert_eq!(rt; map.vertex_of_other_degree(rt.alloc(), four)?, Some(0));
+    let even = Degrees::EvenUpTo { greatest: 4 };
+    assert_eq!(rt; map.vertex_of_other_degree(rt.alloc(), even)?, None);
+    let two = Degrees::EvenUpTo { greatest: 2 };
+    assert_eq!(rt; map.vertex_of_other_degree(rt.alloc(), two)?, Some(1));
+    assert_eq!(rt; map.face_of_other_degree(rt.alloc(), even)?, Some(1));
+    Ok(())
+}

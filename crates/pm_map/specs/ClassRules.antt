@@ -1,0 +1,56 @@
+-- The rules of the classes, and the first dart that breaks one.
+use Rattle.std.specs.Prelude.{◌≡◌, ℕ, ◌%◌, ◌<◌, ◌≤◌, length, Result, Ok, Err, ⊤}
+use Rattle.pm_map.specs.declared.class_refusal.ClassRefusal.{ClassRefusal}
+use Rattle.pm_map.specs.declared.class_refusal.ClassRefusal.TheVariants.{Memory, Empty, TooMany, Vertex, Face, Loop, Double}
+use Rattle.pm_map.specs.declared.admitted.Degrees.{Degrees}
+use Rattle.pm_map.specs.declared.admitted.Degrees.TheVariants.{Exactly, EvenUpTo}
+use Rattle.pm_map.specs.Structure.{Structure}
+use Rattle.pm_map.specs.Rotation.{RotationSystem, structure_of}
+use Rattle.pm_map.specs.CycleSize.{IsCycleSize}
+use Rattle.pm_map.specs.Simple.{IsLoop, IsDouble}
+use Rattle.pm_map.specs.Classes.{IsQuartic}
+
+-- the degree is one of these
+abbrev pub IsAdmitted : Degrees → ℕ → Type 0
+IsAdmitted (Exactly degree) size = size ≡ degree
+IsAdmitted (EvenUpTo greatest) size = (size % 2 ≡ 0) × (size ≤ greatest)
+
+-- the vertex of the dart has one of these degrees
+pub record HasAdmittedDegree (s : Structure) (degrees : Degrees) (d : ℕ) : Type 0 where
+  pub degree : ℕ
+  pub counted : IsCycleSize s.next d degree
+  pub admitted : IsAdmitted degrees degree
+
+-- each vertex has one of these degrees
+abbrev pub AllAdmitted : Structure → Degrees → Type 0
+AllAdmitted s degrees = (d : ℕ) → d < s.darts → HasAdmittedDegree s degrees d
+
+-- the least dart whose vertex has none of these degrees
+pub record IsLeastOther (s : Structure) (degrees : Degrees) (d : ℕ) : Type 0 where
+  pub within : d < s.darts
+  pub breaks : HasAdmittedDegree s degrees d → ⊥
+  pub least : (e : ℕ) → e < d → HasAdmittedDegree s degrees e
+
+-- the least dart whose edge is a loop
+pub record IsLeastLoop (s : Structure) (d : ℕ) : Type 0 where
+  pub within : d < s.darts
+  pub breaks : IsLoop s d
+  pub least : (e : ℕ) → e < d → IsLoop s e → ⊥
+
+-- the least dart whose edge has a double
+pub record IsLeastDouble (s : Structure) (d : ℕ) : Type 0 where
+  pub within : d < s.darts
+  pub breaks : IsDouble s d
+  pub least : (e : ℕ) → e < d → IsDouble s e → ⊥
+
+-- What a map is answered that should be quartic: its size, or the first rule that it breaks. Want of memory may come at
+-- any map.
+abbrev pub IsQuarticAnswer : RotationSystem → Result ℕ ClassRefusal → Type 0
+IsQuarticAnswer m (Ok n) = IsQuartic (structure_of m) n
+IsQuarticAnswer m (Err Empty) = length m.sigma ≡ 0
+IsQuarticAnswer m (Err (Vertex dart)) = IsLeastOther (structure_of m) (Exactly 4) dart
+IsQuarticAnswer m (Err Memory) = ⊤
+IsQuarticAnswer m (Err (TooMany edges)) = ⊥
+IsQuarticAnswer m (Err (Face dart)) = ⊥
+IsQuarticAnswer m (Err (Loop dart)) = ⊥
+IsQuarticAnswer m (Err (Double dart)) = ⊥
