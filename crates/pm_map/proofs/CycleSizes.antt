@@ -5,18 +5,8 @@ use Rattle.std.proofs.lemmas.Bool.{cases_eq, cases_order}
 use Rattle.pm_perm.specs.Permutation.{IsPermutationBelow}
 use Rattle.pm_perm.proofs.Pigeonhole.{Places-le}
 use Rattle.pm_perm.specs.Cycles.{repeated}
-use Rattle.pm_perm.proofs.Repeats.{repeated-inside, repeated-add, repeated-injective}
+use Rattle.pm_perm.proofs.Repeats.{repeated-inside, repeated-injective, repeated-swap, repeated-back}
 use Rattle.pm_map.specs.CycleSize.{IsCycleSize, IsSized}
-
-pub repeated-swap : (f : ℕ → ℕ) (j k d : ℕ) → repeated f j (repeated f k d) ≡ repeated f k (repeated f j d)
-repeated-swap f j k d = repeated-add f j k d ∙ ap (λ n. repeated f n d) (let e : j + k ≡ k + j = omega arith in e) ∙ sym (repeated-add f k j d)
-
--- where fewer and more steps lead to the same number, the difference leads back
-pub repeated-back : (n : ℕ) (f : ℕ → ℕ) (i j d : ℕ) → IsPermutationBelow n f → d < n → i < j → repeated f i d ≡ repeated f j d → repeated f (j - i) d ≡ d
-repeated-back n f i j d p h less e =
-    let whole : i + (j - i) ≡ j = omega arith in
-    let parts : repeated f j d ≡ repeated f i (repeated f (j - i) d) = ap (λ k. repeated f k d) (sym whole) ∙ sym (repeated-add f i (j - i) d) in
-    repeated-injective f n p i (repeated f (j - i) d) d (repeated-inside f n p (j - i) d h) h (sym parts ∙ sym e)
 
 -- a way of so many steps that isn't back before its end
 pub record IsAway (f : ℕ → ℕ) (d steps next : ℕ) : Type 0 where

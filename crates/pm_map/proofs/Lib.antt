@@ -2,6 +2,7 @@ pub mod CanonicalNames
 pub mod CarriedMeeting
 pub mod CarriedStructure
 pub mod CycleSizes
+pub mod DegreeCounts
 pub mod DegreeRules
 pub mod FaceLemmas
 pub mod FaceWalkLemmas

@@ -1,11 +1,10 @@
--- Marks of the values of a list, and lists in which each number stands.
+-- Marks of the values of a list.
 use Rattle.std.proofs.Common.{◌≡◌, ℕ, ◌+◌, ◌<◌, inl, inr, Bool, true, false, Option, Some, None, List, length, get_or, set, sym, ◌∙◌, ap, subst, arith, length-set}
 use Rattle.std.proofs.lemmas.List.{get_or-set_same, get_or-set_other}
 use Rattle.std.proofs.lemmas.Bool.{cases_eq, false≢true}
 use Rattle.std.specs.Prelude.{MatchOption}
-use Rattle.pm_perm.specs.Permutation.{IsPermutationBelow, IsPermutationList}
-use Rattle.pm_perm.proofs.Permutations.{IsReached, reached}
-use Rattle.pm_perm.proofs.InverseLemmas.{place_of, place_of-value}
+use Rattle.pm_perm.specs.Permutation.{IsPermutationList}
+use Rattle.pm_perm.proofs.InverseLemmas.{standing_permutes}
 use Rattle.pm_map.specs.Meeting.{Stands}
 use Rattle.pm_map.specs.Marks.{AllMarked, NoneMarked, IsLeastUnmarked, MarksValues}
 use Rattle.pm_map.specs.Missing.{IsLeastMissing}
@@ -14,28 +13,6 @@ use Rattle.pm_map.specs.Missing.{IsLeastMissing}
 pub MatchOption-weaker : {X : Type 0} (o : Option X) {P P' : Type 0} {Q Q' : X → Type 0} → MatchOption o P Q → (P → P') → ((x : X) → Q x → Q' x) → MatchOption o P' Q'
 MatchOption-weaker None m at_none at_some = at_none m
 MatchOption-weaker (Some x) m at_none at_some = at_some x m
-
--- a function below a bound that reaches each number below it is a permutation
-pub onto_permutes : (bound : ℕ) (f : ℕ → ℕ) → ((y : ℕ) → y < bound → IsReached f bound y) → IsPermutationBelow bound f
-onto_permutes bound f onto =
-    let g : ℕ → ℕ = place_of f bound in
-    let back : (y : ℕ) → y < bound → (g y < bound) × (f (g y) ≡ y) = λ y h. place_of-value f bound y (onto y h) in
-    let p : IsPermutationBelow bound g = record {
-      stays = λ y h. (back y h).0;
-      injective = λ x y hx hy e. sym ((back x hx).1) ∙ ap f e ∙ (back y hy).1;
-    } in
-    let from : (k : ℕ) → k < bound → IsReached g bound k = λ k h. reached g bound k p h in
-    let value : (k : ℕ) (h : k < bound) → f k ≡ (from k h).from = λ k h. ap f (sym ((from k h).value)) ∙ (back ((from k h).from) ((from k h).below)).1 in
-    record {
-      stays = λ k h. subst (λ x. x < bound) (sym (value k h)) ((from k h).below);
-      injective = λ j k hj hk e. sym ((from j hj).value) ∙ ap g (sym (value j hj) ∙ e ∙ value k hk) ∙ (from k hk).value;
-    }
-
--- a list in which each number below its length stands is a permutation
-pub standing_permutes : (values : List ℕ) → ((n : ℕ) → n < length values → Stands values n) → IsPermutationList values
-standing_permutes values all =
-    onto_permutes (length values) (λ k. get_or values k 0)
-    (λ y h. let s = all y h in record { from = s.0; below = s.1.within; value = s.1.here })
 
 -- nothing of the list is marked yet
 pub MarksValues-none : (values : List ℕ) (marks : List Bool) → NoneMarked marks → MarksValues values 0 marks

@@ -1,5 +1,6 @@
 pub mod Canonical
 pub mod CanonicalLaws
+pub mod ClassLaws
 pub mod ClassRules
 pub mod Classes
 pub mod CycleSize

@@ -1,15 +1,7 @@
 -- The meeting list: the vertices of a connected structure in the order in which they are met from the root.
 use Rattle.std.specs.Prelude.{◌≡◌, ◌≢◌, ℕ, suc, ◌<◌, ◌-◌, List, [], ◌∷◌, ◌++◌, length, slice_get, slice_index, Some}
 use Rattle.pm_map.specs.Structure.{Structure}
-
--- the dart stands in the list, at this place
-pub record StandsAt (darts : List ℕ) (place d : ℕ) : Type 0 where
-  pub within : place < length darts
-  pub here : slice_index darts place ≡ d
-
--- the dart stands in the list
-abbrev pub Stands : List ℕ → ℕ → Type 0
-Stands darts d = (place : ℕ) × StandsAt darts place d
+pub use Rattle.pm_perm.specs.Lists.{StandsAt, Stands}
 
 -- the list is the vertex of d, from d on: each dart is followed by the next around the vertex, the last leads back to d,
 -- and d stands once

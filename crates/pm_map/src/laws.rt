@@ -1,4 +1,5 @@
 ghost use Rattle.pm_map.specs.CanonicalLaws.{CanonicalIsRooted, CanonicalIsUnique, CanonicalTellsMaps};
+ghost use Rattle.pm_map.specs.ClassLaws.{DegreeCountsDarts};
 ghost use Rattle.pm_map.specs.Parts.{HasOneMapAnswer};
 
 /// What canonical maps are for, as a law to call upon; nothing is computed. The canonical map of a rooted map is a rooted
@@ -14,4 +15,10 @@ pub fn canonical_is_unique()
 #[tactic(auto, using(crate::proofs::UniqueParts::one_map_answer))]
 pub fn map_answer_is_unique()
     ensures { HasOneMapAnswer }
+{}
+
+/// The degree of a vertex, the least number of steps around it that lead back to a dart, is the number of its darts;
+/// nothing is computed.
+pub fn degree_counts_darts()
+    ensures { DegreeCountsDarts }
 {}

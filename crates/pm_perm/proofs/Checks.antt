@@ -2,7 +2,7 @@
 use Rattle.std.proofs.Common.{◌≡◌, ℕ, ◌+◌, ◌<◌, ◌⊎◌, ◌↔◌, inl, inr, Bool, true, false, ◌&&◌, List, length, get_or, set, slice_index, IsTrue, sym, ap, ◌∙◌, refl, arith, rules, get_or-set_same, get_or-set_other}
 use Rattle.std.proofs.lemmas.Bool.{cases_eq}
 use Rattle.pm_perm.specs.Permutation.{IsPermutationList}
-use Rattle.pm_perm.specs.Lists.{IsStanding}
+use Rattle.pm_perm.specs.Lists.{Stands}
 use Rattle.pm_perm.proofs.Pigeonhole.{Places}
 use Rattle.pm_perm.proofs.Permutations.{IsReached}
 
@@ -128,11 +128,11 @@ checked-answer values count marks all e c = (λ t. whole values count marks all 
       record { stays = λ k h. p.stays k (omega (arith, h, e)); injective = λ j k hj hk. p.injective j k (omega (arith, hj, e)) (omega (arith, hk, e)) }
 
 pub checked-standing : (values : List ℕ) (count : ℕ) (marks : List Bool) (all : Bool) → count ≡ length values → IsChecked values count marks all
-    → (number : ℕ) → number < length values → (get_or marks number false ≡ true) ↔ IsStanding values number
+    → (number : ℕ) → number < length values → (get_or marks number false ≡ true) ↔ Stands values number
 checked-standing values count marks all e c number h = (
-  λ m. (let r : IsReached (slice_index values) count number = c.found number h m in record { place = r.from; within = omega (arith, r.below, e); here = r.value }),
+  λ m. (let r : IsReached (slice_index values) count number = c.found number h m in (r.from, record { within = omega (arith, r.below, e); here = r.value })),
   λ s. back values count marks all number h e c s,
 ) where
-  back : (values : List ℕ) (count : ℕ) (marks : List Bool) (all : Bool) (number : ℕ) → number < length values → count ≡ length values → IsChecked values count marks all → IsStanding values number → get_or marks number false ≡ true
+  back : (values : List ℕ) (count : ℕ) (marks : List Bool) (all : Bool) (number : ℕ) → number < length values → count ≡ length values → IsChecked values count marks all → Stands values number → get_or marks number false ≡ true
   back values count marks all number h e c s =
-      sym (ap (λ v. get_or marks v false) s.here) ∙ c.marked s.place (omega (arith, s.within, e)) (omega (arith, s.here, h))
+      sym (ap (λ v. get_or marks v false) s.1.here) ∙ c.marked s.0 (omega (arith, s.1.within, e)) (omega (arith, s.1.here, h))

@@ -1,7 +1,8 @@
 -- The inverse of a permutation below a bound, as a function.
-use Rattle.std.proofs.Common.{◌≡◌, ℕ, zero, suc, ◌<◌, cond, eqb, sym, ap, ◌∙◌, inl, inr, eq-eqb, ne_eqb, arith}
+use Rattle.std.proofs.Common.{◌≡◌, ℕ, zero, suc, ◌<◌, cond, eqb, List, length, get_or, sym, ap, subst, ◌∙◌, inl, inr, eq-eqb, ne_eqb, arith}
 use Rattle.std.proofs.lemmas.Bool.{cases_eq, cond-true, cond-false}
-use Rattle.pm_perm.specs.Permutation.{IsPermutationBelow}
+use Rattle.pm_perm.specs.Permutation.{IsPermutationBelow, IsPermutationList}
+use Rattle.pm_perm.specs.Lists.{Stands}
 use Rattle.pm_perm.proofs.Permutations.{IsReached, reached}
 
 -- the number below the bound whose value is y, 0 where there is none
@@ -43,3 +44,25 @@ place_of-permutes f bound p = record {
   stays = λ y h. place_of-stays f bound y p h;
   injective = λ x y hx hy e. sym (value-place_of f bound x p hx) ∙ ap f e ∙ value-place_of f bound y p hy;
 }
+
+-- a function below a bound that reaches each number below it is a permutation
+pub onto_permutes : (bound : ℕ) (f : ℕ → ℕ) → ((y : ℕ) → y < bound → IsReached f bound y) → IsPermutationBelow bound f
+onto_permutes bound f onto =
+    let g : ℕ → ℕ = place_of f bound in
+    let back : (y : ℕ) → y < bound → (g y < bound) × (f (g y) ≡ y) = λ y h. place_of-value f bound y (onto y h) in
+    let p : IsPermutationBelow bound g = record {
+      stays = λ y h. (back y h).0;
+      injective = λ x y hx hy e. sym ((back x hx).1) ∙ ap f e ∙ (back y hy).1;
+    } in
+    let from : (k : ℕ) → k < bound → IsReached g bound k = λ k h. reached g bound k p h in
+    let value : (k : ℕ) (h : k < bound) → f k ≡ (from k h).from = λ k h. ap f (sym ((from k h).value)) ∙ (back ((from k h).from) ((from k h).below)).1 in
+    record {
+      stays = λ k h. subst (λ x. x < bound) (sym (value k h)) ((from k h).below);
+      injective = λ j k hj hk e. sym ((from j hj).value) ∙ ap g (sym (value j hj) ∙ e ∙ value k hk) ∙ (from k hk).value;
+    }
+
+-- a list in which each number below its length stands is a permutation
+pub standing_permutes : (values : List ℕ) → ((n : ℕ) → n < length values → Stands values n) → IsPermutationList values
+standing_permutes values all =
+    onto_permutes (length values) (λ k. get_or values k 0)
+    (λ y h. let s = all y h in record { from = s.0; below = s.1.within; value = s.1.here })

@@ -28,6 +28,17 @@ repeated-injective f n p zero x y hx hy e = e
 repeated-injective f n p (suc k) x y hx hy e =
     repeated-injective f n p k x y hx hy (p.injective (repeated f k x) (repeated f k y) (repeated-inside f n p k x hx) (repeated-inside f n p k y hy) e)
 
+-- steps of one number and of another, in either order
+pub repeated-swap : (f : ℕ → ℕ) (j k d : ℕ) → repeated f j (repeated f k d) ≡ repeated f k (repeated f j d)
+repeated-swap f j k d = repeated-add f j k d ∙ ap (λ n. repeated f n d) (let e : j + k ≡ k + j = omega arith in e) ∙ sym (repeated-add f k j d)
+
+-- where fewer and more steps lead to the same number, the difference leads back
+pub repeated-back : (n : ℕ) (f : ℕ → ℕ) (i j d : ℕ) → IsPermutationBelow n f → d < n → i < j → repeated f i d ≡ repeated f j d → repeated f (j - i) d ≡ d
+repeated-back n f i j d p h less e =
+    let whole : i + (j - i) ≡ j = omega arith in
+    let parts : repeated f j d ≡ repeated f i (repeated f (j - i) d) = ap (λ k. repeated f k d) (sym whole) ∙ sym (repeated-add f i (j - i) d) in
+    repeated-injective f n p i (repeated f (j - i) d) d (repeated-inside f n p (j - i) d h) h (sym parts ∙ sym e)
+
 -- a number is met again after one to `size` steps
 pub record HasPeriod (f : ℕ → ℕ) (n d : ℕ) : Type 0 where
   pub fewer : ℕ
