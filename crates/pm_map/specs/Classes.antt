@@ -1,6 +1,6 @@
--- The classes of maps, each with its sizes: numbers, or lists of pairs of a degree and a count. All maps of a class are
--- plane.
-use Rattle.std.specs.Prelude.{◌≡◌, ◌≢◌, ℕ, ◌+◌, ◌%◌, ◌<◌, ◌&&◌, ◌==◌, List, length, slice_index_or, if◌then◌else◌}
+-- The classes of maps, each with its sizes: numbers, or lists of pairs of a degree and a count, in rising order of the
+-- degree. All maps of a class are plane.
+use Rattle.std.specs.Prelude.{◌≡◌, ◌≢◌, ℕ, suc, ◌+◌, ◌%◌, ◌<◌, ◌&&◌, ◌==◌, List, length, slice_index_or, if◌then◌else◌}
 use Rattle.pm_perm.specs.Count.{count_below}
 use Rattle.pm_perm.specs.Cycles.{leader}
 use Rattle.pm_map.specs.Structure.{Structure, dual}
@@ -31,8 +31,11 @@ pub record IsGeneral (s : Structure) (n : ℕ) : Type 0 where
   pub plane : IsPlane s
   pub count : edges s ≡ n
 
--- vertices of these degrees, as many of each as its pair says, and no others; each degree is even
+-- Vertices of these degrees, as many of each as its pair says, and no others. The degrees are even and in rising order,
+-- and there are some of each: so a structure has one such list at most.
 pub record HasDegrees (s : Structure) (pairs : List (ℕ × ℕ)) : Type 0 where
+  pub rising : (k : ℕ) → suc k < length pairs → (slice_index_or pairs k (0, 0)).0 < (slice_index_or pairs (suc k) (0, 0)).0
+  pub some : (k : ℕ) → k < length pairs → 0 < (slice_index_or pairs k (0, 0)).1
   pub even : (k : ℕ) → k < length pairs → (slice_index_or pairs k (0, 0)).0 % 2 ≡ 0
   pub counts : (k : ℕ) → k < length pairs → vertices_of_degree s (slice_index_or pairs k (0, 0)).0 ≡ (slice_index_or pairs k (0, 0)).1
   pub others : (degree : ℕ) → ((k : ℕ) → k < length pairs → (slice_index_or pairs k (0, 0)).0 ≢ degree) → vertices_of_degree s degree ≡ 0
