@@ -1,5 +1,5 @@
 -- Broken lines of map files, from those of what begins with a map text and those of what stands after it.
-use Rattle.std.proofs.Common.{◌≡◌, ℕ, ◌+◌, ◌-◌, ◌*◌, ◌<◌, List, [], ◌∷◌, ◌++◌, length, sym, ap, ◌∙◌, subst, inl, inr, arith, append_assoc, length-append}
+use Rattle.std.proofs.Common.{◌≡◌, ℕ, ◌+◌, ◌-◌, ◌*◌, ◌<◌, refl, get_or, List, [], ◌∷◌, ◌++◌, length, sym, ap, ◌∙◌, subst, inl, inr, arith, append_assoc, length-append}
 use Rattle.std.specs.Prelude.{All, codes}
 use Rattle.std.proofs.lemmas.Bool.{cases_lt}
 use Rattle.std.proofs.lemmas.List.{append-nil, append_cancel_left}
@@ -8,7 +8,8 @@ use Rattle.pm_text.specs.Broken.{newline, lines, first_lines, IsBrokenLine}
 use Rattle.pm_text.proofs.LineLemmas.{IsWholeLines, no_whole_lines, one_whole_line, first_lines-whole, first_lines-past, first_lines-fewer, begins_with_whole_lines}
 use Rattle.pm_mapfile.specs.MapText.{dart_words, vertex_line, vertex_lines, map_line}
 use Rattle.pm_mapfile.specs.MapFile.{MapLines, IsVertexLine, AreMapLines, lines_text}
-use Rattle.pm_mapfile.proofs.TailLemmas.{cut_alike, v_not_end, end_no_newline, vertex_no_newline, first_text, first_line_spelled, first_no_newline, whole_text}
+use Rattle.pm_mapfile.proofs.NumberLines.{numbers_are_unique}
+use Rattle.pm_mapfile.proofs.TailLemmas.{tag_v_no_space, tag_v_some, tag_map_no_space, tag_map_some, two_fit, cut_alike, v_not_end, end_no_newline, vertex_no_newline, first_text, first_line_spelled, first_no_newline, whole_text}
 
 -- a front of a file that is valid alone, and with anything after it valid in a wider form
 pub record HasFront (narrow wide : List ℕ → Type 0) (file : List ℕ) : Type 0 where
@@ -99,23 +100,27 @@ whole_map_text m are =
     let all = whole_append (1 + length m.vertices) 1 (map_line m.edges m.root ++ vertex_lines m.vertices) (codes "end\n") front last in
     subst (λ n. IsWholeLines n (lines_text m)) (let count : 1 + length m.vertices + 1 ≡ length m.vertices + 2 = omega arith in count) all
 
--- what stands after the line `end` is one
-after_vertices : (darts more : ℕ) (vs ws : List (List ℕ)) (a b : List ℕ) → All (IsVertexLine darts) vs → All (IsVertexLine more) ws
-    → vertex_lines vs ++ (codes "end" ++ newline ∷ a) ≡ vertex_lines ws ++ (codes "end" ++ newline ∷ b) → a ≡ b
-after_vertices darts more [] [] a b f g e = let alike = cut_alike (codes "end") (codes "end") a b end_no_newline end_no_newline e in alike.rest
-after_vertices darts more [] (w ∷ ws) a b f g e =
+-- lines of vertices that are the same bytes are the same, and so is what stands after the line `end`
+pub record AreVerticesAlike (vs ws : List (List ℕ)) (a b : List ℕ) : Type 0 where
+  pub vertices : vs ≡ ws
+  pub rest : a ≡ b
+
+vertices_alike : (darts more : ℕ) (vs ws : List (List ℕ)) (a b : List ℕ) → All (IsVertexLine darts) vs → All (IsVertexLine more) ws
+    → vertex_lines vs ++ (codes "end" ++ newline ∷ a) ≡ vertex_lines ws ++ (codes "end" ++ newline ∷ b) → AreVerticesAlike vs ws a b
+vertices_alike darts more [] [] a b f g e = let alike = cut_alike (codes "end") (codes "end") a b end_no_newline end_no_newline e in record { vertices = refl; rest = alike.rest }
+vertices_alike darts more [] (w ∷ ws) a b f g e =
     let is = All-head (IsVertexLine more) w ws g in
     let tail = vertex_lines ws ++ (codes "end" ++ newline ∷ b) in
     let grouped = append_assoc (vertex_line w) (vertex_lines ws) (codes "end" ++ newline ∷ b) ∙ append_assoc (codes "v" ++ dart_words w) (newline ∷ []) tail in
     let alike = cut_alike (codes "end") (codes "v" ++ dart_words w) a tail end_no_newline (vertex_no_newline w is.fit) (e ∙ grouped) in
     absurd (v_not_end (dart_words w) (sym alike.line))
-after_vertices darts more (v ∷ vs) [] a b f g e =
+vertices_alike darts more (v ∷ vs) [] a b f g e =
     let is = All-head (IsVertexLine darts) v vs f in
     let tail = vertex_lines vs ++ (codes "end" ++ newline ∷ a) in
     let grouped = append_assoc (vertex_line v) (vertex_lines vs) (codes "end" ++ newline ∷ a) ∙ append_assoc (codes "v" ++ dart_words v) (newline ∷ []) tail in
     let alike = cut_alike (codes "v" ++ dart_words v) (codes "end") tail b (vertex_no_newline v is.fit) end_no_newline (sym grouped ∙ e) in
     absurd (v_not_end (dart_words v) alike.line)
-after_vertices darts more (v ∷ vs) (w ∷ ws) a b f g e =
+vertices_alike darts more (v ∷ vs) (w ∷ ws) a b f g e =
     let is = All-head (IsVertexLine darts) v vs f in
     let is_w = All-head (IsVertexLine more) w ws g in
     let tail = vertex_lines vs ++ (codes "end" ++ newline ∷ a) in
@@ -123,12 +128,36 @@ after_vertices darts more (v ∷ vs) (w ∷ ws) a b f g e =
     let grouped = append_assoc (vertex_line v) (vertex_lines vs) (codes "end" ++ newline ∷ a) ∙ append_assoc (codes "v" ++ dart_words v) (newline ∷ []) tail in
     let grouped_w = append_assoc (vertex_line w) (vertex_lines ws) (codes "end" ++ newline ∷ b) ∙ append_assoc (codes "v" ++ dart_words w) (newline ∷ []) tail_w in
     let alike = cut_alike (codes "v" ++ dart_words v) (codes "v" ++ dart_words w) tail tail_w (vertex_no_newline v is.fit) (vertex_no_newline w is_w.fit) (sym grouped ∙ e ∙ grouped_w) in
-    after_vertices darts more vs ws a b (All-tail (IsVertexLine darts) v vs f) (All-tail (IsVertexLine more) w ws g) alike.rest
+    let first : v ≡ w = numbers_are_unique (codes "v") (codes "v" ++ dart_words v) v w tag_v_no_space tag_v_some (record { fit = is.fit; spelled = refl }) (record { fit = is_w.fit; spelled = alike.line }) in
+    let others = vertices_alike darts more vs ws a b (All-tail (IsVertexLine darts) v vs f) (All-tail (IsVertexLine more) w ws g) alike.rest in
+    record { vertices = ap (λ x. x ∷ vs) first ∙ ap (λ xs. w ∷ xs) others.vertices; rest = others.rest }
 
--- of two map texts with something after each that are the same bytes, the same stands after each
-pub after_alike : (m k : MapLines) (a b : List ℕ) → AreMapLines m → AreMapLines k → lines_text m ++ a ≡ lines_text k ++ b → a ≡ b
-after_alike m k a b one other e =
+-- two map texts with something after each that are the same bytes have the same lines, and the same after them
+pub record AreTextsAlike (m k : MapLines) (a b : List ℕ) : Type 0 where
+  pub lines : m ≡ k
+  pub rest : a ≡ b
+
+lines_from_parts : (m k : MapLines) → m.edges ≡ k.edges → m.root ≡ k.root → m.vertices ≡ k.vertices → m ≡ k
+lines_from_parts m k edges root vertices =
+    let with_edges : ℕ → MapLines = λ x. record { edges = x; root = m.root; vertices = m.vertices } in
+    let with_root : ℕ → MapLines = λ x. record { edges = k.edges; root = x; vertices = m.vertices } in
+    let with_vertices : List (List ℕ) → MapLines = λ x. record { edges = k.edges; root = k.root; vertices = x } in
+    ap with_edges edges ∙ ap with_root root ∙ ap with_vertices vertices
+
+pub texts_alike : (m k : MapLines) (a b : List ℕ) → AreMapLines m → AreMapLines k → lines_text m ++ a ≡ lines_text k ++ b → AreTextsAlike m k a b
+texts_alike m k a b one other e =
     let tail = vertex_lines m.vertices ++ (codes "end" ++ newline ∷ a) in
     let tail_k = vertex_lines k.vertices ++ (codes "end" ++ newline ∷ b) in
     let alike = cut_alike (first_text m.edges m.root) (first_text k.edges k.root) tail tail_k (first_no_newline m.edges m.root one.first) (first_no_newline k.edges k.root other.first) (sym (whole_text m a) ∙ e ∙ whole_text k b) in
-    after_vertices (2 * m.edges) (2 * k.edges) m.vertices k.vertices a b one.each other.each alike.rest
+    let first : m.edges ∷ m.root ∷ [] ≡ k.edges ∷ k.root ∷ [] =
+    numbers_are_unique (codes "map") (first_text m.edges m.root) (m.edges ∷ m.root ∷ []) (k.edges ∷ k.root ∷ []) tag_map_no_space tag_map_some
+    (record { fit = two_fit m.edges m.root one.first; spelled = refl }) (record { fit = two_fit k.edges k.root other.first; spelled = alike.line }) in
+    let others = vertices_alike (2 * m.edges) (2 * k.edges) m.vertices k.vertices a b one.each other.each alike.rest in
+    record {
+      lines = lines_from_parts m k (ap (λ l. get_or l 0 0) first) (ap (λ l. get_or l 1 0) first) others.vertices;
+      rest = others.rest;
+    }
+
+-- the same stands after each
+pub after_alike : (m k : MapLines) (a b : List ℕ) → AreMapLines m → AreMapLines k → lines_text m ++ a ≡ lines_text k ++ b → a ≡ b
+after_alike m k a b one other e = let alike = texts_alike m k a b one other e in alike.rest

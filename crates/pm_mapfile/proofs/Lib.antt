@@ -7,3 +7,8 @@ pub mod FormLemmas
 pub mod FileLemmas
 pub mod ResidueLemmas
 pub mod AnswerLemmas
+pub mod RotationLemmas
+pub mod LinesLemmas
+pub mod TextAnswers
+pub mod OneAnswer
+pub mod ReadAgainLemmas

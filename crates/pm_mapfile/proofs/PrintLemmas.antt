@@ -89,7 +89,7 @@ AreVertices-meets : (s : Structure) (vertices : List (List ℕ)) → Meets s ver
 AreVertices-meets s vertices (at_root vertex is) = some s.root vertex [] is none
 AreVertices-meets s vertices (onward before d vertex met unmet is) = AreVertices-push s before (s.twin d) vertex (AreVertices-meets s before met) is
 
-AreVertices-list : (s : Structure) (vertices : List (List ℕ)) → IsMeetingList s vertices → AreVertices s vertices
+pub AreVertices-list : (s : Structure) (vertices : List (List ℕ)) → IsMeetingList s vertices → AreVertices s vertices
 AreVertices-list s vertices (no_dart _) = none
 AreVertices-list s vertices (complete vs _ met _) = AreVertices-meets s vs met
 

@@ -10,6 +10,8 @@ use Rattle.pm_text.proofs.LineLemmas.{HasNoNewline-nil, HasNoNewline-cons, HasNo
 use Rattle.pm_text.proofs.WordLemmas.{HasNoSpace-nil, HasNoSpace-cons}
 use Rattle.pm_text.proofs.BrokenLemmas.{next_line_is_broken}
 use Rattle.pm_text.proofs.ReaderLemmas.{broken_at_line, broken_at_end}
+use Rattle.pm_lists.specs.ListLine.{list_line}
+use Rattle.pm_mapfile.proofs.NumberLines.{list_line_tagged}
 use Rattle.pm_mapfile.specs.MapText.{dart_words}
 use Rattle.pm_mapfile.specs.MapFile.{MapLines, lines_text, IsNumbersLine, IsMapFile, IsAfterMap, IsResidue, IsReadMap}
 use Rattle.pm_mapfile.proofs.NumberLines.{Fits64, dart_words_no_newline}
@@ -50,15 +52,16 @@ pub record IsResidueLine (text more : List ℕ) : Type 0 where
 residue_line_of : (text more : List ℕ) (residue : Option (List ℕ)) → HasNoNewline text → IsResidue residue (text ++ newline ∷ more) → IsResidueLine text more
 residue_line_of text more None h is = absurd (no_line text more is.spelled)
 residue_line_of text more (Some numbers) h is =
-    let alike = cut_alike text (codes "residue" ++ dart_words numbers) more [] h (residue_no_newline numbers is.fit) is.spelled in
-    record { numbers = numbers; line = record { fit = is.fit; spelled = alike.line }; ends = alike.rest }
+    let spelled : text ++ newline ∷ more ≡ (codes "residue" ++ dart_words numbers) ++ newline ∷ [] = is.spelled ∙ ap (λ l. l ++ newline ∷ []) (list_line_tagged (codes "residue") numbers) in
+    let alike = cut_alike text (codes "residue" ++ dart_words numbers) more [] h (residue_no_newline numbers is.fit.each) spelled in
+    record { numbers = numbers; line = record { fit = is.fit.each; spelled = alike.line }; ends = alike.rest }
 
 pub residue_line : (text more : List ℕ) → HasNoNewline text → IsAfterMap (text ++ newline ∷ more) → IsResidueLine text more
 residue_line text more h is = residue_line_of text more is.0 h is.1
 
 has_line : (bytes : List ℕ) (residue : Option (List ℕ)) → HasNoNewline bytes → bytes ≢ [] → IsResidue residue bytes → ⊥
 has_line bytes None h some is = some is.spelled
-has_line bytes (Some numbers) h some is = has_newline (codes "residue" ++ dart_words numbers) [] (subst HasNoNewline is.spelled h)
+has_line bytes (Some numbers) h some is = has_newline (list_line (codes "residue") numbers) [] (subst HasNoNewline is.spelled h)
 
 -- an unfinished line
 pub residue_unfinished : (bytes : List ℕ) → HasNoNewline bytes → bytes ≢ [] → IsBrokenLine IsAfterMap bytes 1
@@ -71,14 +74,14 @@ residue_invalid after bytes text new next none =
     (λ more is. let line = residue_line text more next.no_newline is in none line.numbers line.line)
 
 residue_is : (text numbers : List ℕ) → IsNumbersLine (codes "residue") text numbers → IsResidue (Some numbers) (text ++ newline ∷ [])
-residue_is text numbers line = record { fit = line.fit; spelled = ap (λ l. l ++ newline ∷ []) line.spelled }
+residue_is text numbers line = record { fit = record { each = line.fit }; spelled = ap (λ l. l ++ newline ∷ []) (line.spelled ∙ sym (list_line_tagged (codes "residue") numbers)) }
 
 -- a residue line, and bytes after it
 pub residue_followed : (after : ℕ) (bytes text numbers : List ℕ) (new : Reading) → IsNextLine (reading_of bytes) new text true after → IsNumbersLine (codes "residue") text numbers → new.rest ≢ [] → IsBrokenLine IsAfterMap bytes 2
 residue_followed after bytes text numbers new next line more =
     let front = text ++ newline ∷ [] in
     next_line_is_broken IsAfterMap 1 bytes front new.rest [] (next.left ∙ sym (append_assoc text (newline ∷ []) new.rest)) (one_whole_line text next.no_newline)
-    (Some numbers, record { fit = line.fit; spelled = append-nil front ∙ ap (λ l. l ++ newline ∷ []) line.spelled })
+    (Some numbers, subst (IsResidue (Some numbers)) (sym (append-nil front)) (residue_is text numbers line))
     (λ other is same.
     let one = residue_line text other next.no_newline (subst IsAfterMap (append_assoc text (newline ∷ []) other) is) in
     more (is_unfinished [] new.rest HasNoNewline-nil (sym same ∙ ap (first_lines 1) one.ends)))

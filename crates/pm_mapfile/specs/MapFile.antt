@@ -1,6 +1,8 @@
 -- Map files: which bytes are the text of a map, line by line. Whether the vertices make a map is no matter of the text.
 use Rattle.std.specs.Prelude.{◌≡◌, ℕ, ◌+◌, ◌*◌, ◌<◌, ◌≤◌, ◌^◌, List, [], ◌∷◌, ◌++◌, All, Option, Some, None, MatchOption, ⊤, length, map, take, codes}
 use Rattle.std.specs.List.{concat}
+use Rattle.pm_text.specs.Broken.{newline}
+use Rattle.pm_lists.specs.ListLine.{AreWords, list_line}
 use Rattle.pm_mapfile.specs.MapText.{dart_words, map_line, vertex_lines}
 
 -- what the lines of a map text say: the number of edges, the root, and the darts on the line of each vertex
@@ -33,12 +35,6 @@ pub record AreMapLines (m : MapLines) : Type 0 where
 abbrev pub lines_text : MapLines → List ℕ
 lines_text m = map_line m.edges m.root ++ vertex_lines m.vertices ++ codes "end\n"
 
--- a map text, and nothing more
-pub record IsMapFileText (bytes : List ℕ) : Type 0 where
-  pub lines : MapLines
-  pub are_lines : AreMapLines lines
-  pub spelled : bytes ≡ lines_text lines
-
 -- a map text, and anything after it
 pub record BeginsWithMapText (bytes : List ℕ) : Type 0 where
   pub lines : MapLines
@@ -50,12 +46,6 @@ pub record BeginsWithMapText (bytes : List ℕ) : Type 0 where
 pub record IsNumbersLine (tag text numbers : List ℕ) : Type 0 where
   pub fit : All (λ number. number < 2 ^ 64) numbers
   pub spelled : text ≡ tag ++ dart_words numbers
-
--- the numbers of the line are appended
-pub record AppendsNumbers (tag text old new : List ℕ) : Type 0 where
-  pub numbers : List ℕ
-  pub is_line : IsNumbersLine tag text numbers
-  pub appended : new ≡ old ++ numbers
 
 -- the line is that of a vertex for which there is room among so many darts; its darts are appended, and how many they are
 pub record AppendsVertex (darts : ℕ) (text old new old_sizes new_sizes : List ℕ) : Type 0 where
@@ -89,11 +79,11 @@ pub record IsReadMap (bytes : List ℕ) (edges root : ℕ) (darts sizes : List �
 -- the residue line that a file has or hasn't: `residue` and numbers
 abbrev pub residue_text : Option (List ℕ) → List ℕ
 residue_text None = []
-residue_text (Some numbers) = codes "residue" ++ dart_words numbers ++ 10 ∷ []
+residue_text (Some numbers) = list_line (codes "residue") numbers ++ newline ∷ []
 
 -- what stands after a map text in a map file: nothing, or a residue line whose numbers have 64 bits
 pub record IsResidue (residue : Option (List ℕ)) (bytes : List ℕ) : Type 0 where
-  pub fit : MatchOption residue ⊤ (λ numbers. All (λ number. number < 2 ^ 64) numbers)
+  pub fit : MatchOption residue ⊤ AreWords
   pub spelled : bytes ≡ residue_text residue
 
 abbrev pub IsAfterMap : List ℕ → Type 0

@@ -5,6 +5,7 @@ ghost use Rattle.pm_mapfile.specs.ReadFile.{IsReadFileAnswer};
 
 use crate::numbers::read_numbers;
 use crate::read::{ReadText, TextRefusal, next_ended, read_map_text};
+use pm_lists::NumList;
 use pm_text::Lines;
 use std::alloc::Global;
 
@@ -14,7 +15,7 @@ pub(crate) struct ReadFile {
     /// The text of the map.
     pub text: ReadText,
     /// The numbers of the residue line, where there is one.
-    pub residue: Option<Vec<u64>>,
+    pub residue: Option<NumList>,
 }
 
 /// Reads a map file: the text of a map, then at most one residue line, and nothing more.
@@ -41,7 +42,7 @@ pub(crate) fn read_map_lines(alloc: Global, bytes: &[u8]) -> Result<ReadFile, Te
 
 // The numbers of the residue line that is all of `bytes`, or `None` where there are no bytes. Lines are counted from
 // the first of `bytes`.
-fn read_residue(alloc: Global, bytes: &[u8]) -> Result<Option<Vec<u64>>, TextRefusal>
+fn read_residue(alloc: Global, bytes: &[u8]) -> Result<Option<NumList>, TextRefusal>
     ensures { IsResidueAnswer bytes.now result }
 {
     if bytes.is_empty() {
@@ -51,10 +52,9 @@ fn read_residue(alloc: Global, bytes: &[u8]) -> Result<Option<Vec<u64>>, TextRef
     let Some(line) = next_ended(&mut lines) else {
         return Err(TextRefusal::Text { line: 1 });
     };
-    let mut numbers = Vec::new(alloc);
-    if !read_numbers(b"residue", line.text, &mut numbers)? {
+    let Some(numbers) = read_numbers(alloc, b"residue", line.text)? else {
         return Err(TextRefusal::Text { line: 1 });
-    }
+    };
     if lines.next().is_some() {
         return Err(TextRefusal::Text { line: 2 });
     }

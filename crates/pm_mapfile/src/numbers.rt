@@ -1,37 +1,25 @@
 //! Lines of a tag and numbers.
-ghost use Rattle.std.specs.Prelude.{◌≢◌, ℕ, List, [], IfOk};
-ghost use Rattle.std.specs.Bool.{MatchBool};
-ghost use Rattle.pm_text.specs.Spaced.{HasNoSpace};
-ghost use Rattle.pm_mapfile.specs.MapFile.{IsNumbersLine, AppendsNumbers};
+ghost use Rattle.std.specs.Prelude.{ℕ, List, IsTrue, IfOk, MatchOption};
+ghost use Rattle.pm_lists.specs.ListLine.{is_tag};
+ghost use Rattle.pm_mapfile.specs.MapFile.{IsNumbersLine};
 
-use pm_text::{Words, number};
-use std::alloc::AllocError;
+use pm_lists::{ListTextRefusal, NumList, read_list};
+use std::alloc::{AllocError, Global};
 
-/// Appends the numbers of the line `text`, which is `tag` and numbers, each after one space, or answers false exactly
-/// where the line is not. Where it answers false, some of the numbers may be appended.
+/// The numbers of the line `text`, which is `tag` and numbers, each after one space, or `None` where the line is not.
 pub(crate) fn read_numbers(
+    alloc: Global,
     tag: &[u8],
     text: &[u8],
-    numbers: &mut Vec<u64>,
-) -> Result<bool, AllocError>
-    requires word { HasNoSpace tag.now }
-    requires some { tag.now ≢ [] }
-    ensures { IfOk result (λ is_line. MatchBool is_line
-        (AppendsNumbers tag.now text.now numbers.old.items numbers.new.items)
-        ((ns : List ℕ) → IsNumbersLine tag.now text.now ns → ⊥)) }
+) -> Result<Option<NumList>, AllocError>
+    requires { IsTrue (is_tag tag.now) }
+    ensures { IfOk result (λ found. MatchOption found
+        ((ns : List ℕ) → IsNumbersLine tag.now text.now ns → ⊥)
+        (IsNumbersLine tag.now text.now)) }
 {
-    let mut words = Words::new(text);
-    let Some(first) = words.next() else {
-        return Ok(false);
-    };
-    if first != tag {
-        return Ok(false);
+    match read_list(alloc, tag, text) {
+        Ok(numbers) => Ok(Some(numbers)),
+        Err(ListTextRefusal::Text) => Ok(None),
+        Err(ListTextRefusal::Memory) => Err(AllocError),
     }
-    'words: while let Some(word) = words.next() {
-        let Some(value) = number(word) else {
-            return Ok(false);
-        };
-        numbers.push(value)?;
-    }
-    Ok(true)
 }

@@ -4,7 +4,7 @@ ghost use Rattle.std.specs.Bool.{MatchBool};
 ghost use Rattle.pm_text.specs.Broken.{HasNoNewline};
 ghost use Rattle.pm_text.specs.Reading.{IsNextLine};
 ghost use Rattle.pm_mapfile.specs.MapFile.{IsFirstText, AppendsVertex, HasNoRoomFor};
-ghost use Rattle.pm_mapfile.specs.ReadText.{IsReadTextAnswer, IsReadAloneAnswer};
+ghost use Rattle.pm_mapfile.specs.ReadText.{IsReadTextAnswer};
 
 use crate::numbers::read_numbers;
 use pm_text::{Line, Lines};
@@ -84,35 +84,13 @@ pub(crate) fn read_map_text(alloc: Global, bytes: &[u8]) -> Result<ReadText, Tex
                 after: line.after,
             });
         }
-        if !read_vertex(line.text, limit, &mut darts, &mut sizes)? {
+        if !read_vertex(alloc, line.text, limit, &mut darts, &mut sizes)? {
             break 'lines;
         }
     }
     Err(TextRefusal::Text {
         line: sizes.len() as u32 + 2,
     })
-}
-
-/// Reads the text of a map that is all of `bytes`.
-///
-/// # Errors
-///
-/// `Text` exactly where `bytes` is not the text of a map and nothing more, with the first line that breaks the form;
-/// `Memory` where memory runs out.
-pub(crate) fn read_lone_map_text(alloc: Global, bytes: &[u8]) -> Result<ReadText, TextRefusal>
-    requires { length bytes.now < 2 ^ 32 }
-    ensures { IsReadAloneAnswer bytes.now result }
-{
-    let text = match read_map_text(alloc, bytes) {
-        Ok(text) => text,
-        Err(refusal) => return Err(refusal),
-    };
-    if text.after < bytes.len() {
-        return Err(TextRefusal::Text {
-            line: text.sizes.len() as u32 + 3,
-        });
-    }
-    Ok(text)
 }
 
 // The next line, or `None` where no line is left that ends.
@@ -130,11 +108,14 @@ fn read_first(alloc: Global, text: &[u8]) -> Result<Option<FirstLine>, AllocErro
         ((edges root : ℕ) → IsFirstText text.now edges root → ⊥)
         (λ line. IsFirstText text.now line.edges line.root)) }
 {
-    let mut numbers = Vec::new(alloc);
-    if !read_numbers(b"map", text, &mut numbers)? || numbers.len() != 2 {
+    let Some(numbers) = read_numbers(alloc, b"map", text)? else {
+        return Ok(None);
+    };
+    let values = numbers.values();
+    if values.len() != 2 {
         return Ok(None);
     }
-    let (edges, root) = (numbers[0], numbers[1]);
+    let (edges, root) = (values[0], values[1]);
     let is_root = if edges == 0 {
         root == 0
     } else {
@@ -148,8 +129,9 @@ fn read_first(alloc: Global, text: &[u8]) -> Result<Option<FirstLine>, AllocErro
 }
 
 // Appends the darts of the line of a vertex, and how many they are, where there is room for so many; or answers false
-// exactly where the line is none or there is no room. Where it answers false, some of the darts may be appended.
+// exactly where the line is none or there is no room, and appends nothing.
 fn read_vertex(
+    alloc: Global,
     text: &[u8],
     room: u128,
     darts: &mut Vec<u64>,
@@ -159,15 +141,18 @@ fn read_vertex(
         (AppendsVertex room text.now darts.old.items darts.new.items sizes.old.items sizes.new.items)
         (HasNoRoomFor room text.now darts.old.items × (sizes.new.items ≡ sizes.old.items))) }
 {
-    let before = darts.len();
-    if !read_numbers(b"v", text, darts)? {
+    let Some(numbers) = read_numbers(alloc, b"v", text)? else {
+        return Ok(false);
+    };
+    let vertex = numbers.values();
+    if vertex.is_empty()
+        || (darts.len() + vertex.len()) as u128 > room
+        || !are_below(vertex, room)
+    {
         return Ok(false);
     }
-    let size = darts.len() - before;
-    if size == 0 || darts.len() as u128 > room || !are_below(&darts[before..], room) {
-        return Ok(false);
-    }
-    sizes.push(size)?;
+    darts.extend_from_slice(vertex)?;
+    sizes.push(vertex.len())?;
     Ok(true)
 }
 

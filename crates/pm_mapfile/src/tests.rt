@@ -1,8 +1,7 @@
 //! Worked texts.
-use crate::file::read_map_lines;
-use crate::put_map;
-use crate::read::{TextRefusal, read_lone_map_text, read_map_text};
-use pm_map::RootedMap;
+use crate::{FileRefusal, put_map, read_map, read_map_file};
+use pm_lists::{NumList, put_list};
+use pm_map::{MapRefusal, RootedMap};
 use std::alloc::Global;
 use std::test::Fail;
 
@@ -44,111 +43,211 @@ fn no_dart(rt: HostRuntime) -> Result<(), Fail> {
     Ok(())
 }
 
-// The line that breaks the text of a map alone, where one does; 0 where memory runs out or the bytes are too many.
-fn broken_line(alloc: Global, bytes: &[u8]) -> Option<u32> {
-    if bytes.len() > 1000 {
-        return Some(0);
-    }
-    match read_lone_map_text(alloc, bytes) {
-        Ok(_) => None,
-        Err(TextRefusal::Text { line }) => Some(line),
-        Err(TextRefusal::Memory) => Some(0),
-    }
-}
+const RENUMBERED: &[u8] = b"map 4 7\nv 7 0 2 6\nv 1 3 5 4\nend\nresidue 0 0 1 0\n";
 
 #[test]
 fn a_text_is_read(rt: HostRuntime) -> Result<(), Fail> {
-    let bytes = b"map 4 7\nv 7 0 2 6\nv 1 3 5 4\nend\nmore";
-    let text = match read_map_text(rt.alloc(), bytes) {
-        Ok(text) => text,
-        Err(_) => return Err("a text".into()),
+    let answer = read_map(rt.alloc(), RENUMBERED, 4);
+    assert!(rt; answer.is_ok());
+    let Ok((map, after)) = answer else {
+        return Ok(())
     };
-    assert_eq!(rt; text.edges, 4);
-    assert_eq!(rt; text.root, 7);
-    assert_eq!(rt; text.darts.as_slice(), [7, 0, 2, 6, 1, 3, 5, 4].as_slice());
-    assert_eq!(rt; text.sizes.as_slice(), [4, 4].as_slice());
-    assert_eq!(rt; text.after, 32);
+    assert_eq!(rt; map.root(), 7);
+    assert_eq!(rt; map.sigma(), [2, 3, 6, 5, 1, 4, 7, 0].as_slice());
+    assert_eq!(rt; after, 32);
     Ok(())
-}
-
-#[test]
-fn every_front_of_a_text(rt: HostRuntime) {
-    let bytes: &[u8] = b"map 4 7\nv 7 0 2 6\nv 1 3 5 4\nend\n";
-    let lines = [
-        1, 1, 1, 1, 1, 1, 1, 1, 2, 2, 2, 2, 2, 2, 2, 2, 2, 2, 3, 3, 3, 3, 3, 3, 3, 3, 3, 3, 4, 4,
-        4, 4,
-    ];
-    for (count, line) in lines.iter().enumerate() {
-        assert_eq!(rt; broken_line(rt.alloc(), &bytes[..count]), Some(*line));
-    }
-    assert_eq!(rt; broken_line(rt.alloc(), bytes), None);
-}
-
-#[test]
-fn texts_with_and_without_a_broken_line(rt: HostRuntime) {
-    let rows: [(&[u8], Option<u32>); 16] = [
-        (b"", Some(1)),
-        (b"map 0 0\nend\n", None),
-        (b"map 0 1\nend\n", Some(1)),
-        (b"map 02 0\nend\n", Some(1)),
-        (b"map 1 2\nv 0\nv 1\nend\n", Some(1)),
-        (b"map 18446744073709551616 0\nend\n", Some(1)),
-        (b"map 9223372036854775808 0\nv 4294967296\nend\n", Some(3)),
-        (b"map 2 0\nv 0 1 2 3\n", Some(3)),
-        (b"map 2 0\nv 0 1 2 4\nend\n", Some(2)),
-        (b"map 2 0\nv 0 1 2\nend\n", Some(3)),
-        (b"map 2 0\nv 0 1 2 3\nv 0\nend\n", Some(3)),
-        (b"map 2 0\nv 0 1 2 2\nend\n", None),
-        (b"map 2 0\nv 0 1 2 2\nend\nx\n", Some(4)),
-        (b"map 2 0\nv\nend\n", Some(2)),
-        (b"map 2 0\nv 0 1 2 3 \nend\n", Some(2)),
-        (b"map 1 0\nv 0\nv  1\nend\n", Some(3)),
-    ];
-    for (bytes, line) in rows {
-        assert_eq!(rt; broken_line(rt.alloc(), bytes), line);
-    }
-}
-
-// The line that breaks a map file, where one does; 0 where memory runs out or the bytes are too many.
-fn broken_line_of_file(alloc: Global, bytes: &[u8]) -> Option<u32> {
-    if bytes.len() > 1000 {
-        return Some(0);
-    }
-    match read_map_lines(alloc, bytes) {
-        Ok(_) => None,
-        Err(TextRefusal::Text { line }) => Some(line),
-        Err(TextRefusal::Memory) => Some(0),
-    }
-}
-
-#[test]
-fn files_with_and_without_a_broken_line(rt: HostRuntime) {
-    let rows: [(&[u8], Option<u32>); 7] = [
-        (b"map 1 0\nv 0\nv 1\nend\n", None),
-        (b"map 1 0\nv 0\nv 1\nend\nresidue 9 9\n", None),
-        (b"map 1 0\nv 0\nv 1\nend\nresidue\n", None),
-        (b"map 1 0\nv 0\nv 1\nend\nresidue  9\n", Some(5)),
-        (b"map 1 0\nv 0\nv 1\nend\nresidue 9", Some(5)),
-        (
-            b"map 1 0\nv 0\nv 1\nend\nresidue 2 0\nresidue 2 0\n",
-            Some(6),
-        ),
-        (b"map 1 0\nv 0\nend\nresidue 2 0\n", Some(3)),
-    ];
-    for (bytes, line) in rows {
-        assert_eq!(rt; broken_line_of_file(rt.alloc(), bytes), line);
-    }
 }
 
 #[test]
 fn a_file_is_read(rt: HostRuntime) -> Result<(), Fail> {
-    let bytes = b"map 1 0\nv 0 1\nend\nresidue 0 18446744073709551615\n";
-    let file = match read_map_lines(rt.alloc(), bytes) {
-        Ok(file) => file,
-        Err(_) => return Err("a file".into()),
+    let answer = read_map_file(rt.alloc(), RENUMBERED, 4);
+    assert!(rt; answer.is_ok());
+    let Ok((map, residue)) = answer else {
+        return Ok(())
     };
-    assert_eq!(rt; file.text.sizes.as_slice(), [2].as_slice());
-    let residue = file.residue.ok_or("a residue line")?;
-    assert_eq!(rt; residue.as_slice(), [0, 18446744073709551615].as_slice());
+    assert_eq!(rt; map.root(), 7);
+    assert_eq!(rt; map.sigma(), [2, 3, 6, 5, 1, 4, 7, 0].as_slice());
+    let residue = residue.ok_or("a residue line")?;
+    assert_eq!(rt; residue.values(), [0, 0, 1, 0].as_slice());
     Ok(())
+}
+
+#[test]
+fn a_file_without_a_residue_line(rt: HostRuntime) -> Result<(), Fail> {
+    let answer = read_map_file(rt.alloc(), b"map 0 0\nend\n", 0);
+    assert!(rt; answer.is_ok());
+    let Ok((map, residue)) = answer else {
+        return Ok(())
+    };
+    assert_eq!(rt; map.edges(), 0);
+    assert_eq!(rt; map.root(), 0);
+    assert!(rt; residue.is_none());
+    Ok(())
+}
+
+#[test]
+fn numbers_of_64_bits_in_a_residue_line(rt: HostRuntime) -> Result<(), Fail> {
+    let bytes = b"map 1 0\nv 0 1\nend\nresidue 0 18446744073709551615\n";
+    let answer = read_map_file(rt.alloc(), bytes, 1);
+    assert!(rt; answer.is_ok());
+    let Ok((_, residue)) = answer else {
+        return Ok(())
+    };
+    let residue = residue.ok_or("a residue line")?;
+    assert_eq!(rt; residue.values(), [0, 18446744073709551615].as_slice());
+    Ok(())
+}
+
+#[test]
+fn what_is_printed_is_read_again(rt: HostRuntime) -> Result<(), Fail> {
+    let sigma = Vec::from_slice(rt.alloc(), &[2, 0, 3, 1])?;
+    let answer = RootedMap::from_parts(rt.alloc(), sigma, 2);
+    assert!(rt; answer.is_ok());
+    let Ok(map) = answer else { return Ok(()) };
+    let residue = NumList::of(Vec::from_slice(rt.alloc(), &[5, 0])?);
+    let mut text = Vec::new(rt.alloc());
+    put_map(rt.alloc(), &map, &mut text)?;
+    put_list(rt.alloc(), b"residue", &residue, &mut text)?;
+    if text.len() > 1000 {
+        return Err("a short text".into());
+    }
+    let again = read_map_file(rt.alloc(), &text, 2);
+    assert!(rt; again.is_ok());
+    let Ok((read, numbers)) = again else {
+        return Ok(())
+    };
+    assert_eq!(rt; read.root(), 2);
+    assert_eq!(rt; read.sigma(), [2, 0, 3, 1].as_slice());
+    let numbers = numbers.ok_or("a residue line")?;
+    assert_eq!(rt; numbers.values(), [5, 0].as_slice());
+    Ok(())
+}
+
+// Why the bytes are refused as a map file, where they are. Memory stands for more bytes or edges than are tried here.
+fn refusal_of_file(alloc: Global, bytes: &[u8], limit: u32) -> Option<FileRefusal> {
+    if bytes.len() > 1000 || limit > 1000 {
+        return Some(FileRefusal::Memory);
+    }
+    match read_map_file(alloc, bytes, limit) {
+        Ok(_) => None,
+        Err(refusal) => Some(refusal),
+    }
+}
+
+// The same of a map text at the front of the bytes.
+fn refusal_of_text(alloc: Global, bytes: &[u8], limit: u32) -> Option<FileRefusal> {
+    if bytes.len() > 1000 || limit > 1000 {
+        return Some(FileRefusal::Memory);
+    }
+    match read_map(alloc, bytes, limit) {
+        Ok(_) => None,
+        Err(refusal) => Some(refusal),
+    }
+}
+
+#[test]
+fn every_front_of_a_file(rt: HostRuntime) {
+    // 0 where the front is a file
+    let lines: [u32; 49] = [
+        1, 1, 1, 1, 1, 1, 1, 1, 2, 2, 2, 2, 2, 2, 2, 2, 2, 2, 3, 3, 3, 3, 3, 3, 3, 3, 3, 3, 4, 4,
+        4, 4, 0, 5, 5, 5, 5, 5, 5, 5, 5, 5, 5, 5, 5, 5, 5, 5, 0,
+    ];
+    for (count, line) in lines.iter().enumerate() {
+        let refusal = if *line == 0 {
+            None
+        } else {
+            Some(FileRefusal::Text { line: *line })
+        };
+        assert_eq!(rt;
+            refusal_of_file(rt.alloc(), &RENUMBERED[..count], 4),
+            refusal
+        );
+    }
+}
+
+#[test]
+fn texts_with_a_broken_line(rt: HostRuntime) {
+    let rows: [(&[u8], u32); 15] = [
+        (b"", 1),
+        (b"map 2 0\nv 0 1 2 3\n", 3),
+        (b"map 02 0\nend\n", 1),
+        (b"map 0 1\nend\n", 1),
+        (b"map 1 2\nv 0\nv 1\nend\n", 1),
+        (b"map 18446744073709551616 0\nend\n", 1),
+        (b"map 18446744073709551615 0\nend\n", 2),
+        (b"map 9223372036854775808 0\nv 4294967296\nend\n", 3),
+        (b"map 2 0\nv 0 1 2 4\nend\n", 2),
+        (b"map 2 0\nv 0 1 2\nend\n", 3),
+        (b"map 2 0\nv 0 1 2 3\nv 0\nend\n", 3),
+        (b"map 2 0\nv\nend\n", 2),
+        (b"map 2 0\nv 0 1 2 3 \nend\n", 2),
+        (b"map 1 0\nv 0\nv  1\nend\n", 3),
+        (b"map 2 0\nv 0 1 2 3\nend", 3),
+    ];
+    for (bytes, line) in rows {
+        let refusal = Some(FileRefusal::Text { line });
+        assert_eq!(rt; refusal_of_text(rt.alloc(), bytes, 1000), refusal);
+        assert_eq!(rt; refusal_of_file(rt.alloc(), bytes, 1000), refusal);
+    }
+}
+
+#[test]
+fn files_with_a_broken_line_after_the_text(rt: HostRuntime) {
+    let rows: [(&[u8], u32); 5] = [
+        (b"map 2 0\nv 0 1 2 3\nend\nv 0\n", 4),
+        (b"map 2 0\nv 0 1 2 2\nend\nx\n", 4),
+        (b"map 1 0\nv 0 1\nend\nresidue  2\n", 4),
+        (b"map 1 0\nv 0\nv 1\nend\nresidue 9", 5),
+        (b"map 1 0\nv 0\nv 1\nend\nresidue 2 0\nresidue 2 0\n", 6),
+    ];
+    for (bytes, line) in rows {
+        let refusal = Some(FileRefusal::Text { line });
+        assert_eq!(rt; refusal_of_file(rt.alloc(), bytes, 1000), refusal);
+    }
+}
+
+#[test]
+fn texts_of_no_map(rt: HostRuntime) {
+    let rows: [(&[u8], u32, MapRefusal); 7] = [
+        (
+            b"map 2 0\nv 0 1 2 2\nend\n",
+            2,
+            MapRefusal::NotPermutation { dart: 3 },
+        ),
+        (
+            b"map 3 0\nv 0 0 5 1\nv 3 3\nend\n",
+            3,
+            MapRefusal::NotPermutation { dart: 2 },
+        ),
+        (
+            b"map 2 0\nv 0 1 2 2\nend\n",
+            1,
+            MapRefusal::TooMany { edges: 2 },
+        ),
+        (
+            b"map 1 0\nv 0 1\nend\n",
+            0,
+            MapRefusal::TooMany { edges: 1 },
+        ),
+        (
+            b"map 2 0\nv 0 2 1 3\nend\n",
+            2,
+            MapRefusal::Genus { euler: 0 },
+        ),
+        (
+            b"map 4 0\nv 0 1 2 3\nv 4 6 5 7\nend\n",
+            4,
+            MapRefusal::NotConnected { dart: 4 },
+        ),
+        (
+            b"map 2 2\nv 0 1\nv 2 3\nend\n",
+            2,
+            MapRefusal::NotConnected { dart: 0 },
+        ),
+    ];
+    for (bytes, limit, rule) in rows {
+        let refusal = Some(FileRefusal::Map(rule));
+        assert_eq!(rt; refusal_of_text(rt.alloc(), bytes, limit), refusal);
+        assert_eq!(rt; refusal_of_file(rt.alloc(), bytes, limit), refusal);
+    }
 }

@@ -9,19 +9,19 @@ pub returns-in_default : goal.returns-in_default
 returns-in_default c =
     (residue_unfinished c.args.bytes.now (rw c.new-lines.ensures at c.in_default.ensures) (told_some c.args.bytes.now c.is_empty.result c.is_empty.ensures c.if-is_empty.false), omega arith, omega arith)
 
-pub returns-then-not-branch : goal.returns-then-not-branch
-returns-then-not-branch c =
+pub returns-in_default-2 : goal.returns-in_default-2
+returns-in_default-2 c =
     let next = rw c.new-lines.ensures at c.in-Some.ensures in
-    (residue_invalid c.in-Some.line.after c.args.bytes.now c.in-Some.line.text.now c.next_ended.new.lines next (rw c.if-not-branch.true at c.in_ok-read_numbers.ensures), omega arith, omega arith)
+    (residue_invalid c.in-Some.line.after c.args.bytes.now c.in-Some.line.text.now c.next_ended.new.lines next (rw c.in_default-2.is at c.in_ok-numbers.ensures), omega arith, omega arith)
 
 pub returns-then-is_some : goal.returns-then-is_some
 returns-then-is_some c =
     let next = rw c.new-lines.ensures at c.in-Some.ensures in
-    let a = rw c.if-not-branch.false at c.in_ok-read_numbers.ensures in
-    (residue_followed c.in-Some.line.after c.args.bytes.now c.in-Some.line.text.now a.numbers c.next_ended.new.lines next a.is_line (λ none. grind arith), omega arith, omega arith)
+    let line = rw c.in-Some-2.is at c.in_ok-numbers.ensures in
+    (residue_followed c.in-Some.line.after c.args.bytes.now c.in-Some.line.text.now c.in-Some-2.numbers c.next_ended.new.lines next line (λ none. grind arith), omega arith, omega arith)
 
 pub returns : goal.returns
 returns c =
     let next = rw c.new-lines.ensures at c.in-Some.ensures in
-    let a = rw (c.if-not-branch.false, c.new-numbers.ensures.items) at c.in_ok-read_numbers.ensures in
-    rw a.appended (residue_whole c.in-Some.line.after c.args.bytes.now c.in-Some.line.text.now a.numbers c.next_ended.new.lines next a.is_line (c.next.ensures.none.0 (grind arith)))
+    let line = rw c.in-Some-2.is at c.in_ok-numbers.ensures in
+    residue_whole c.in-Some.line.after c.args.bytes.now c.in-Some.line.text.now c.in-Some-2.numbers c.next_ended.new.lines next line (c.next.ensures.none.0 (grind arith))

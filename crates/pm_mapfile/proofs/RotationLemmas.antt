@@ -1,0 +1,204 @@
+-- The rotation of the lines: lines turned by one, the dart after each dart, and what is told of all darts.
+use Rattle.std.proofs.Common.{◌≡◌, ℕ, suc, ◌+◌, ◌-◌, ◌<◌, ◌≤◌, inl, inr, List, [], ◌∷◌, ◌++◌, Option, Some, None, length, take, drop, get_or, set, replicate, refl, sym, ap, ◌∙◌, subst, arith, append_assoc, length-append, length-drop, length-set, drop-drop, Result, Ok, Err}
+use Rattle.std.specs.Prelude.{All, MatchOption, Vec, sum}
+use Rattle.std.specs.declared.alloc.Global.{Global}
+use Rattle.std.proofs.lemmas.Bool.{cases_eq}
+use Rattle.std.proofs.lemmas.List.{drop_more, get_or-set_same, get_or-set_other, get_or-replicate, take-append-drop, length-replicate}
+use Rattle.std.proofs.lemmas.List.Elements.{All-nil, All-head, All-tail, All-append, All-push, All-take, All-drop}
+use Rattle.std.proofs.lemmas.List.Sums.{sum_by-append}
+use Rattle.std.proofs.Math.Seq.{take-append_seam}
+use Rattle.pm_map.specs.declared.refusal.MapRefusal.{MapRefusal}
+use Rattle.pm_map.specs.declared.refusal.MapRefusal.TheVariants.{Memory, TooMany, NotPermutation, NotConnected, Genus}
+use Rattle.pm_map.proofs.MarksLemmas.{MatchOption-weaker}
+use Rattle.pm_mapfile.specs.Rotation.{turned, turned_lines, AreSizes, IsFollowed, AreFollowers, AreAllTold, IsFirstUntold, IsToldAnswer, IsRotationAnswer}
+
+-- a line turned by one has as many darts
+pub length-turned : (darts : List ℕ) → length (turned darts) ≡ length darts
+length-turned [] = refl
+length-turned (dart ∷ darts) = omega (arith, length-append darts (dart ∷ []))
+
+pub sum-cons : (n : ℕ) (ns : List ℕ) → sum (n ∷ ns) ≡ n + sum ns
+sum-cons n ns = let e : sum (n ∷ ns) ≡ sum (n ∷ []) + sum ns = sum_by-append (λ k. k) (n ∷ []) ns in omega (arith, e)
+
+-- the sizes without the first
+sizes_left : (size : ℕ) (sizes darts : List ℕ) → AreSizes (size ∷ sizes) (length darts) → AreSizes sizes (length (drop size darts))
+sizes_left size sizes darts are = record {
+  some = All-tail (λ n. 0 < n) size sizes are.some;
+  total = omega (arith, are.total, sum-cons size sizes, length-drop size darts);
+}
+
+pub length-turned_lines : (sizes darts : List ℕ) → AreSizes sizes (length darts) → length (turned_lines sizes darts) ≡ length darts
+length-turned_lines [] darts are = let total : 0 ≡ length darts = are.total in total
+length-turned_lines (size ∷ sizes) darts are =
+    omega (
+      arith,
+      length-append (turned (take size darts)) (turned_lines sizes (drop size darts)),
+      length-turned (take size darts),
+      length-turned_lines sizes (drop size darts) (sizes_left size sizes darts are),
+      ap length (take-append-drop size darts),
+      length-append (take size darts) (drop size darts),
+    )
+
+-- and no other darts
+All-turned : (P : ℕ → Type 0) (darts : List ℕ) → All P darts → All P (turned darts)
+All-turned P [] all = all
+All-turned P (dart ∷ darts) all = All-push P darts dart (All-tail P dart darts all) (All-head P dart darts all)
+
+pub All-turned_lines : (P : ℕ → Type 0) (sizes darts : List ℕ) → All P darts → All P (turned_lines sizes darts)
+All-turned_lines P [] darts all = All-nil P
+All-turned_lines P (size ∷ sizes) darts all =
+    All-append P (turned (take size darts)) (turned_lines sizes (drop size darts)) (All-turned P (take size darts) (All-take P size darts all))
+    (All-turned_lines P sizes (drop size darts) (All-drop P size darts all))
+
+-- the lines that are turned, and those that are left
+pub record IsTurning (sizes darts after : List ℕ) (count start : ℕ) : Type 0 where
+  pub left : AreSizes (drop count sizes) (length (drop start darts))
+  pub within : start ≤ length darts
+  pub are_turned : turned_lines sizes darts ≡ after ++ turned_lines (drop count sizes) (drop start darts)
+
+pub turning_begins : (sizes darts : List ℕ) → AreSizes sizes (length darts) → IsTurning sizes darts [] 0 0
+turning_begins sizes darts are = record { left = are; within = omega arith; are_turned = refl }
+
+-- the size of the next line
+pub next_size : (sizes darts after : List ℕ) (count start : ℕ) → IsTurning sizes darts after count start → count < length sizes
+    → AreSizes (get_or sizes count 0 ∷ drop (count + 1) sizes) (length (drop start darts))
+next_size sizes darts after count start t h = subst (λ l. AreSizes l (length (drop start darts))) (drop_more sizes count 0 h) t.left
+
+pub next_fits : (sizes darts after : List ℕ) (count start : ℕ) → IsTurning sizes darts after count start → count < length sizes
+    → (0 < get_or sizes count 0) × (start + get_or sizes count 0 ≤ length darts)
+next_fits sizes darts after count start t h =
+    let are = next_size sizes darts after count start t h in
+    let size = get_or sizes count 0 in
+    (All-head (λ n. 0 < n) size (drop (count + 1) sizes) are.some, omega (arith, are.total, sum-cons size (drop (count + 1) sizes), length-drop start darts, t.within))
+
+-- a line from its first dart on
+turned_take : (n x : ℕ) (xs : List ℕ) → turned (take (suc n) (x ∷ xs)) ≡ take n xs ++ x ∷ []
+turned_take n x xs = refl
+
+turned_slice : (size start : ℕ) (darts : List ℕ) → 0 < size → start + size ≤ length darts
+    → turned (take size (drop start darts)) ≡ take (start + size - (start + 1)) (drop (start + 1) darts) ++ get_or darts start 0 ∷ []
+turned_slice size start darts some fits =
+    let n = size - 1 in
+    let one : size ≡ suc n = omega arith in
+    let count : n ≡ start + size - (start + 1) = omega arith in
+    ap (λ s. turned (take s (drop start darts))) one ∙ ap (λ l. turned (take (suc n) l)) (drop_more darts start 0 (omega arith))
+    ∙ turned_take n (get_or darts start 0) (drop (start + 1) darts) ∙ ap (λ k. take k (drop (start + 1) darts) ++ get_or darts start 0 ∷ []) count
+
+pub turning_more : (sizes darts after more : List ℕ) (count start : ℕ) → IsTurning sizes darts after count start → count < length sizes
+    → more ≡ (after ++ take (start + get_or sizes count 0 - (start + 1)) (drop (start + 1) darts)) ++ get_or darts start 0 ∷ []
+    → IsTurning sizes darts more (count + 1) (start + get_or sizes count 0)
+turning_more sizes darts after more count start t h added =
+    let size = get_or sizes count 0 in
+    let rest = drop (count + 1) sizes in
+    let fits = next_fits sizes darts after count start t h in
+    let are = next_size sizes darts after count start t h in
+    let past : drop size (drop start darts) ≡ drop (start + size) darts = drop-drop size start darts in
+    record {
+      left = subst (λ l. AreSizes rest (length l)) past (sizes_left size rest (drop start darts) are);
+      within = fits.1;
+      are_turned = t.are_turned ∙ ap (λ l. after ++ turned_lines l (drop start darts)) (drop_more sizes count 0 h)
+          ∙ ap (λ l. after ++ (l ++ turned_lines rest (drop size (drop start darts)))) (turned_slice size start darts fits.0 fits.1)
+          ∙ ap (λ l. after ++ ((take (start + size - (start + 1)) (drop (start + 1) darts) ++ get_or darts start 0 ∷ []) ++ turned_lines rest l)) past
+          ∙ sym (append_assoc after (take (start + size - (start + 1)) (drop (start + 1) darts) ++ get_or darts start 0 ∷ []) (turned_lines rest (drop (start + size) darts)))
+          ∙ ap (λ l. l ++ turned_lines rest (drop (start + size) darts)) (sym (append_assoc after (take (start + size - (start + 1)) (drop (start + 1) darts)) (get_or darts start 0 ∷ [])) ∙ sym added);
+    }
+
+pub turning_ends : (sizes darts after : List ℕ) (count start : ℕ) → IsTurning sizes darts after count start → drop count sizes ≡ [] → after ≡ turned_lines sizes darts
+turning_ends sizes darts after count start t none =
+    sym (append_nil after) ∙ ap (λ l. after ++ turned_lines l (drop start darts)) (sym none) ∙ sym t.are_turned where
+      append_nil : (l : List ℕ) → l ++ [] ≡ l
+      append_nil [] = refl
+      append_nil (x ∷ l) = ap (λ m. x ∷ m) (append_nil l)
+
+-- no dart is followed yet
+pub followers_none : (darts after : List ℕ) → AreFollowers darts after 0 (replicate (length darts) None)
+followers_none darts after = record {
+  size = length-replicate (length darts) None;
+  each = λ dart h. subst (λ o. MatchOption o ((place : ℕ) → place < 0 → get_or darts place 0 ≡ dart → ⊥) (IsFollowed darts after 0 dart))
+      (sym (get_or-replicate (length darts) dart None None h)) (λ place less here. omega arith);
+}
+
+-- one dart more
+pub followers_more : (darts after : List ℕ) (count : ℕ) (followers : List (Option ℕ)) → AreFollowers darts after count followers → count < length darts
+    → get_or darts count 0 < length darts → AreFollowers darts after (count + 1) (set followers (get_or darts count 0) (Some (get_or after count 0)))
+followers_more darts after count followers are h below =
+    let here = get_or darts count 0 in
+    let next : Option ℕ = Some (get_or after count 0) in
+    let inside : here < length followers = omega (arith, are.size) in
+    record {
+      size = length-set followers here next ∙ are.size;
+      each = λ dart within. elim (cases_eq dart here) [
+        | inl same ↦ subst (λ o. MatchOption o ((place : ℕ) → place < count + 1 → get_or darts place 0 ≡ dart → ⊥) (IsFollowed darts after (count + 1) dart))
+            (sym (ap (λ n. get_or (set followers here next) n None) same ∙ get_or-set_same followers here next None inside))
+            (record { place = count; within = omega arith; here = sym same; is_next = refl })
+        | inr other ↦ subst (λ o. MatchOption o ((place : ℕ) → place < count + 1 → get_or darts place 0 ≡ dart → ⊥) (IsFollowed darts after (count + 1) dart))
+            (sym (get_or-set_other followers here dart next None other))
+            (MatchOption-weaker (get_or followers dart None) (are.each dart within)
+            (λ none place less stands. elim (cases_eq place count) [
+              | inl last ↦ other (sym stands ∙ ap (λ n. get_or darts n 0) last)
+              | inr before ↦ none place (omega (arith, before)) stands
+            ])
+            (λ value f. record { place = f.place; within = omega (arith, f.within); here = f.here; is_next = f.is_next }))
+      ];
+    }
+
+-- what is told of the first darts is written
+pub record IsTelling (followers : List (Option ℕ)) (values : List ℕ) (count : ℕ) : Type 0 where
+  pub size : length values ≡ length followers
+  pub told : (place : ℕ) → place < count → get_or followers place None ≡ Some (get_or values place 0)
+
+pub telling_begins : (followers : List (Option ℕ)) → IsTelling followers (replicate (length followers) 0) 0
+telling_begins followers = record { size = length-replicate (length followers) 0; told = λ place less. absurd (omega arith) }
+
+pub telling_more : (followers : List (Option ℕ)) (values : List ℕ) (count value : ℕ) → IsTelling followers values count → count < length followers
+    → get_or followers count None ≡ Some value → IsTelling followers (set values count value) (count + 1)
+telling_more followers values count value t h is = record {
+  size = length-set values count value ∙ t.size;
+  told = λ place less. elim (cases_eq place count) [
+    | inl here ↦ ap (λ n. get_or followers n None) here ∙ is
+        ∙ ap (λ (n : ℕ). Some n) (sym (ap (λ n. get_or (set values count value) n 0) here ∙ get_or-set_same values count value 0 (omega (arith, t.size))))
+    | inr other ↦ t.told place (omega (arith, other)) ∙ ap (λ (n : ℕ). Some n) (sym (get_or-set_other values count place value 0 other))
+  ];
+}
+
+pub telling_ends : (followers : List (Option ℕ)) (values : List ℕ) → IsTelling followers values (length followers) → AreAllTold followers values
+telling_ends followers values t = record { size = t.size; each = t.told }
+
+pub first_untold : (followers : List (Option ℕ)) (values : List ℕ) (count : ℕ) → IsTelling followers values count → count < length followers
+    → get_or followers count None ≡ None → IsFirstUntold followers count
+first_untold followers values count t h is = record { within = h; untold = is; before = λ earlier less. (get_or values earlier 0, t.told earlier less) }
+
+-- a dart that is followed
+followed : (darts after : List ℕ) (count dart value : ℕ) (o : Option ℕ) → MatchOption o ((place : ℕ) → place < count → get_or darts place 0 ≡ dart → ⊥) (IsFollowed darts after count dart)
+    → o ≡ Some value → IsFollowed darts after count dart value
+followed darts after count dart value o m is = subst (λ x. MatchOption x ((place : ℕ) → place < count → get_or darts place 0 ≡ dart → ⊥) (IsFollowed darts after count dart)) is m
+
+not_followed : (darts after : List ℕ) (count dart : ℕ) (o : Option ℕ) → MatchOption o ((place : ℕ) → place < count → get_or darts place 0 ≡ dart → ⊥) (IsFollowed darts after count dart)
+    → o ≡ None → (place : ℕ) → place < count → get_or darts place 0 ≡ dart → ⊥
+not_followed darts after count dart o m is = subst (λ x. MatchOption x ((place : ℕ) → place < count → get_or darts place 0 ≡ dart → ⊥) (IsFollowed darts after count dart)) is m
+
+-- what is told of all darts is the rotation, and a dart of which nothing is told stands on no line
+pub told_rotation : (darts sizes : List ℕ) (followers : List (Option ℕ)) (answer : Result (Vec ℕ Global) MapRefusal) → AreFollowers darts (turned_lines sizes darts) (length darts) followers
+    → IsToldAnswer followers answer → IsRotationAnswer darts sizes answer
+told_rotation darts sizes followers (Ok values) are told = record {
+  size = told.size ∙ are.size;
+  each = λ dart h. followed darts (turned_lines sizes darts) (length darts) dart (get_or values.items dart 0) (get_or followers dart None) (are.each dart h) (told.each dart (omega (arith, are.size)));
+}
+told_rotation darts sizes followers (Err (NotPermutation dart)) are told =
+    let within : dart < length darts = omega (arith, told.within, are.size) in
+    record {
+      within = within;
+      nowhere = λ stands. not_followed darts (turned_lines sizes darts) (length darts) dart (get_or followers dart None) (are.each dart within) told.untold stands.0 stands.1.within stands.1.here;
+      least = λ n less.
+          let value = told.before n less in
+          let f = followed darts (turned_lines sizes darts) (length darts) n value.0 (get_or followers n None) (are.each n (omega arith)) value.1 in
+          (f.place, record { within = f.within; here = f.here });
+    }
+told_rotation darts sizes followers (Err Memory) are told = told
+told_rotation darts sizes followers (Err (TooMany edges)) are told = told
+told_rotation darts sizes followers (Err (NotConnected dart)) are told = told
+told_rotation darts sizes followers (Err (Genus euler)) are told = told
+
+-- what is written through a slice of a list stands in the list
+pub written_back : (len : ℕ) (now new old : List (Option ℕ)) → now ≡ take len (new ++ drop (length new) old) → len ≡ length new → now ≡ new
+written_back len now new old is size = is ∙ ap (λ n. take n (new ++ drop (length new) old)) size ∙ take-append_seam new (drop (length new) old)
