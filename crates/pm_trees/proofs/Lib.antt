@@ -2,6 +2,7 @@ pub mod Ahead
 pub mod Balance
 pub mod Binomials
 pub mod Bracketed
+pub mod Dyck
 pub mod LeafCounts
 pub mod Least
 pub mod Levels
@@ -16,5 +17,7 @@ pub mod Spelling
 pub mod Stack
 pub mod Subtree
 pub mod Tally
+pub mod Turns
 pub mod Unique
 pub mod Walk
+pub mod Weights

@@ -1,10 +1,13 @@
 pub mod Binomial
 pub mod Blossoming
 pub mod BudPattern
+pub mod Degrees
 pub mod First
 pub mod Leaves
 pub mod Node
 pub mod Pairs
 pub mod Profile
 pub mod Reading
+pub mod Replanted
+pub mod Replanting
 pub mod Word
