@@ -13,6 +13,7 @@ pub mod Pairing
 pub mod Ranked
 pub mod Ranking
 pub mod Reading
+pub mod Rings
 pub mod Spelling
 pub mod Stack
 pub mod Subtree
