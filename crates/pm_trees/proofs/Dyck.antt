@@ -1,10 +1,10 @@
 -- Words with matched brackets by their grammar (Dyck words): nothing, or a letter and a word, or a word in brackets and a
 -- word.
-use Rattle.std.proofs.Common.{◌≡◌, ℕ, zero, suc, ◌+◌, ◌≤◌, ◌<◌, inl, inr, List, [], ◌∷◌, ◌++◌, length, take, slice_index, refl, ap, sym, ◌∙◌, subst, arith, take_all}
+use Rattle.std.proofs.Common.{◌≡◌, ℕ, zero, suc, ◌+◌, ◌≤◌, inl, inr, List, [], ◌∷◌, ◌++◌, take, refl, ap, sym, subst, arith, take_all}
 use Rattle.std.proofs.lemmas.Bool.{cases_eq}
 use Rattle.std.proofs.lemmas.List.{append_assoc, append-nil}
 use Rattle.pm_trees.specs.declared.letters.TheConstants.{OPEN, CLOSE}
-use Rattle.pm_trees.specs.Word.{count, IsMatched}
+use Rattle.pm_trees.specs.Word.{IsMatched}
 use Rattle.pm_trees.proofs.Tally.{tally, tally_is, tally-nil, tally_yes, tally_no}
 use Rattle.pm_trees.proofs.Own.{IsOther}
 

@@ -4,6 +4,7 @@ pub mod Binomials
 pub mod Bracketed
 pub mod Dyck
 pub mod LeafCounts
+pub mod LeafTurns
 pub mod Least
 pub mod Levels
 pub mod Nesting
@@ -13,6 +14,8 @@ pub mod Pairing
 pub mod Ranked
 pub mod Ranking
 pub mod Reading
+pub mod Replants
+pub mod RingPlaces
 pub mod Rings
 pub mod Spelling
 pub mod Stack

@@ -1,17 +1,16 @@
 -- A ring of letters read from any of its places on: what of the tree stays.
-use Rattle.std.proofs.Common.{◌≡◌, ℕ, zero, suc, ◌+◌, ◌-◌, ◌*◌, ◌%◌, ◌≤◌, ◌<◌, ◌==◌, ◌&&◌, ◌||◌, cond, Bool, true, false, inl, inr, List, [], ◌∷◌, ◌++◌, length, take, drop, slice_index, get_or, All, IsTrue, refl, ap, ap₂, sym, ◌∙◌, subst, arith, drop-cons, eq-eqb, ne_eqb}
-use Rattle.std.proofs.lemmas.Bool.{cases_eq, cases_lt}
+use Rattle.std.proofs.Common.{◌≡◌, ℕ, zero, suc, ◌+◌, ◌-◌, ◌*◌, ◌%◌, ◌≤◌, ◌<◌, ◌==◌, ◌&&◌, ◌||◌, cond, Bool, true, inl, inr, List, [], ◌∷◌, ◌++◌, length, drop, slice_index, All, IsTrue, refl, ap, ap₂, sym, ◌∙◌, subst, arith, drop-cons, eq-eqb, ne_eqb}
+use Rattle.std.proofs.lemmas.Bool.{cases_eq}
 use Rattle.std.proofs.lemmas.List.{drop_all}
-use Rattle.std.proofs.lemmas.List.Elements.{All-cons, All-tail, All-append, All-nil, All-take, All-drop}
+use Rattle.std.proofs.lemmas.List.Elements.{All-cons, All-tail, All-append, All-nil}
 use Rattle.pm_limits.specs.declared.TheConstants.{MAX_DEGREE}
 use Rattle.pm_trees.specs.declared.letters.TheConstants.{LEAF, BUD, OPEN, CLOSE}
-use Rattle.pm_trees.specs.Word.{count, contour, is_letter, IsInOrder}
-use Rattle.pm_trees.specs.Node.{IsNode, IsDegree, IsBudded, own_letters, degree, buds}
-use Rattle.pm_trees.specs.Blossoming.{IsBlossoming, IsShort}
+use Rattle.pm_trees.specs.Word.{contour, is_letter, IsInOrder}
+use Rattle.pm_trees.specs.Node.{IsNode, IsDegree, IsBudded, own_letters, degree}
+use Rattle.pm_trees.specs.Blossoming.{IsBlossoming}
 use Rattle.pm_trees.specs.Degrees.{has_degree, nodes_before, nodes_of}
 use Rattle.pm_trees.specs.Replanted.{IsTurned}
 use Rattle.pm_trees.proofs.Tally.{tally, tally_is, tally_no, tally-append}
-use Rattle.pm_trees.proofs.Own.{IsOther}
 use Rattle.pm_trees.proofs.Dyck.{IsDyck, dyck_join, dyck_from_matched}
 use Rattle.pm_trees.proofs.Dyck.IsDyck.{empty, letter, bracket}
 use Rattle.pm_trees.proofs.Weights.{value, value_is, inner, inner-nil, inner_open, inner_other, weight, weight_is, weight_letter, weight_bracket}
@@ -109,16 +108,16 @@ none_inner f (x ∷ xs) (suc k) h e =
     ]) e
 
 -- 0 at a node of an even degree within the limit that has its buds
-bad : ℕ → ℕ → ℕ
+pub bad : ℕ → ℕ → ℕ
 bad d b = d % 2 + (d - MAX_DEGREE) + (2 * suc b - d) + (d - 2 * suc b)
 
 bad_is : (d b : ℕ) → bad d b ≡ d % 2 + (d - MAX_DEGREE) + (2 * suc b - d) + (d - 2 * suc b)
 unfolding bad
 bad_is d b = refl
 
-record IsGood (places : List ℕ) (node : ℕ) : Type 0 where
-  degree_is : IsDegree (degree places node)
-  buds_are : IsBudded places node
+pub record IsGood (places : List ℕ) (node : ℕ) : Type 0 where
+  pub degree_is : IsDegree (degree places node)
+  pub buds_are : IsBudded places node
 
 good_value : (places : List ℕ) (node : ℕ) → IsGood places node → value bad 1 (drop (suc node) places) ≡ 0
 good_value places node g =
@@ -155,7 +154,7 @@ contour_weight f word =
     let c = inner_other f LEAF word (λ e. omega arith) in
     omega (arith, a, b, c)
 
-none_bad : (word : List ℕ) → IsBlossoming word → weight bad (contour word) ≡ 0
+pub none_bad : (word : List ℕ) → IsBlossoming word → weight bad (contour word) ≡ 0
 none_bad word t =
     let good : (node : ℕ) → IsNode (contour word) node → IsGood (contour word) node = λ node n. record { degree_is = t.degrees node n; buds_are = t.buds node n } in
     let a = contour_weight bad word in
@@ -163,7 +162,7 @@ none_bad word t =
     let c = inner_none bad word (λ k e. good_value (contour word) (suc k) (good (suc k) (inr e))) in
     omega (arith, a, b, c)
 
-all_good : (word : List ℕ) → weight bad (contour word) ≡ 0 → (node : ℕ) → IsNode (contour word) node → IsGood (contour word) node
+pub all_good : (word : List ℕ) → weight bad (contour word) ≡ 0 → (node : ℕ) → IsNode (contour word) node → IsGood (contour word) node
 all_good word z node n =
     let a = contour_weight bad word in
     let root : value bad 1 (drop 1 (contour word)) ≡ 0 = omega (arith, a, z) in
@@ -174,7 +173,7 @@ all_good word z node n =
     ]
 
 -- the nodes of a degree are counted along the contour
-of_degree : ℕ → ℕ → ℕ → ℕ
+pub of_degree : ℕ → ℕ → ℕ → ℕ
 of_degree d n b = cond (n == d) 1 0
 
 of_degree_is : (d n b : ℕ) → of_degree d n b ≡ cond (n == d) 1 0
@@ -225,7 +224,7 @@ counted word d (suc n) l =
           omega (arith, a, b, f, h, m)
     ]
 
-nodes_weight : (word : List ℕ) (d : ℕ) → nodes_of word d ≡ weight (of_degree d) (contour word)
+pub nodes_weight : (word : List ℕ) (d : ℕ) → nodes_of word d ≡ weight (of_degree d) (contour word)
 nodes_weight word d =
     let a = counted word d (length word) (omega arith) in
     let b = contour_weight (of_degree d) word in

@@ -1,7 +1,7 @@
 -- Reading a ring of letters from its second letter on: the letter that was first comes last, and where it is a `(`, its `)`
 -- becomes the `(` and it becomes the `)`.
-use Rattle.std.proofs.Common.{◌≡◌, ℕ, zero, suc, ◌+◌, ◌-◌, ◌%◌, ◌≤◌, ◌<◌, inl, inr, List, [], ◌∷◌, ◌++◌, length, take, drop, slice_index, get_or, refl, ap, ap₂, sym, ◌∙◌, subst, arith, length-append, length-drop, drop-drop}
-use Rattle.std.proofs.lemmas.Bool.{cases_eq, cases_lt, cases_order}
+use Rattle.std.proofs.Common.{◌≡◌, ℕ, suc, ◌+◌, ◌-◌, ◌%◌, ◌<◌, inl, inr, List, [], ◌∷◌, ◌++◌, length, take, drop, slice_index, refl, ap, ap₂, sym, ◌∙◌, subst, arith, length-append, length-drop, drop-drop}
+use Rattle.std.proofs.lemmas.Bool.{cases_lt, cases_order}
 use Rattle.std.proofs.lemmas.List.{get_or_append_left, get_or-append-add, get_or_push, get_or_at, drop-append-le, take-append-le, drop_at, take_at}
 use Rattle.std.proofs.Math.Nat.{add-mod-mod}
 use Rattle.pm_trees.specs.declared.letters.TheConstants.{OPEN, CLOSE}
@@ -11,6 +11,7 @@ use Rattle.pm_trees.proofs.Own.{IsOther}
 use Rattle.pm_trees.proofs.Levels.{inside}
 use Rattle.pm_trees.proofs.Nesting.{one_closer, one_opener, opens_inside}
 use Rattle.pm_trees.proofs.Dyck.{IsDyck, matched_from_dyck}
+use Rattle.pm_trees.proofs.RingPlaces.{mod_stays, are_at, in_order, flipped, not_itself}
 
 -- the same stretch elsewhere
 moved : (xs ys : List ℕ) (p q r s : ℕ) → slice_index ys r ≡ slice_index xs p → slice_index ys s ≡ slice_index xs q → r < s → between ys r s ≡ between xs p q → IsBracketPair xs p q → IsBracketPair ys r s
@@ -84,21 +85,12 @@ whole_pair xs ys d = record {
 
 -- the next place, along the ring
 one_on : (p n : ℕ) → suc p < n → (1 + p) % n ≡ suc p
-one_on p n l = let e : 1 + p ≡ suc p = omega arith in ap (λ (k : ℕ). k % n) e ∙ stays (suc p) n l where
-  stays : (k n : ℕ) → k < n → k % n ≡ k
-  stays k n l = grind arith
+one_on p n l = let e : 1 + p ≡ suc p = omega arith in ap (λ (k : ℕ). k % n) e ∙ mod_stays (suc p) n l
 
 one_back : (p n : ℕ) → suc p ≡ n → (1 + p) % n ≡ 0
 one_back p n l = let e : 1 + p ≡ n = omega arith in ap (λ (k : ℕ). k % n) e ∙ whole n (omega arith) where
   whole : (n : ℕ) → 0 < n → n % n ≡ 0
   whole n l = grind arith
-
-are_at : (xs : List ℕ) (p q r s : ℕ) → p ≡ r → q ≡ s → AreBrackets xs p q → AreBrackets xs r s
-are_at xs p q r s e f h = elim h [ inl a ↦ inl (pair_at xs p q r s e f a) | inr a ↦ inr (pair_at xs q p s r f e a) ]
-
--- in rising order
-in_order : (xs : List ℕ) (p q : ℕ) → p < q → AreBrackets xs p q → IsBracketPair xs p q
-in_order xs p q l h = elim h [ inl a ↦ a | inr a ↦ absurd (let b = a.before in omega arith) ]
 
 not_bracket : (xs : List ℕ) (p q : ℕ) → IsOther (slice_index xs q) → AreBrackets xs p q → ⊥
 not_bracket xs p q o h = elim h [ inl a ↦ o.not_close a.closes | inr a ↦ o.not_open a.opens ]
@@ -220,11 +212,8 @@ turned_none xs = record {
   brackets = λ p q l m pair.
       in_order xs p q l (are_at xs ((0 + p) % length xs) ((0 + q) % length xs) p q (here p (length xs) (omega arith)) (here q (length xs) m) pair);
 } where
-  stays : (k n : ℕ) → k < n → k % n ≡ k
-  stays k n l = grind arith
-
   here : (k n : ℕ) → k < n → (0 + k) % n ≡ k
-  here k n l = let e : 0 + k ≡ k = omega arith in ap (λ (j : ℕ). j % n) e ∙ stays k n l
+  here k n l = let e : 0 + k ≡ k = omega arith in ap (λ (j : ℕ). j % n) e ∙ mod_stays k n l
 
 -- one turn, and then another one
 further : (start p n : ℕ) → (start + (1 + p) % n) % n ≡ (suc start + p) % n
@@ -250,7 +239,7 @@ turned_more xs ys zs start a b =
       brackets = λ p q l m pair.
           let back = are_at xs (place_from xs (suc start) p) (place_from xs (suc start) q) (place_from xs start (step p)) (place_from xs start (step q)) (sym (there p)) (sym (there q)) pair in
           b.brackets p q l (omega arith) (elim (cases_order (step p) (step q)) [
-            | inl e ↦ absurd (not_twice xs (place_from xs start (step p)) (place_from xs start (step q)) (ap (place_from xs start) e) back)
+            | inl e ↦ absurd (not_itself xs (place_from xs start (step p)) (place_from xs start (step q)) (ap (place_from xs start) e) back)
             | inr n ↦ elim n [
               | inl h ↦ inl (a.brackets (step p) (step q) h (within q m) back)
               | inr h ↦ inr (a.brackets (step q) (step p) h (within p (omega arith)) (flipped xs (place_from xs start (step p)) (place_from xs start (step q)) back))
@@ -259,9 +248,3 @@ turned_more xs ys zs start a b =
     } where
       remains : (k m n : ℕ) → m ≡ n → 0 < n → k % m < n
       remains k m n e l = grind arith
-
-      not_twice : (xs : List ℕ) (p q : ℕ) → p ≡ q → AreBrackets xs p q → ⊥
-      not_twice xs p q e h = elim h [ inl a ↦ (let b = a.before in omega arith) | inr a ↦ (let b = a.before in omega arith) ]
-
-      flipped : (xs : List ℕ) (p q : ℕ) → AreBrackets xs p q → AreBrackets xs q p
-      flipped xs p q h = elim h [ inl a ↦ inr a | inr a ↦ inl a ]

@@ -1,11 +1,10 @@
 -- A sum over the nodes of a ring of letters, each by its degree and its buds. The ring's first level is a node of which
 -- each letter is an entry.
-use Rattle.std.proofs.Common.{◌≡◌, ℕ, zero, suc, ◌+◌, ◌≤◌, ◌<◌, ◌==◌, cond, List, [], ◌∷◌, ◌++◌, length, take, drop, slice_index, refl, ap, ap₂, sym, ◌∙◌, subst, arith, eq-eqb, ne_eqb, length-append}
-use Rattle.std.proofs.lemmas.Bool.{cases_eq}
-use Rattle.std.proofs.lemmas.List.{append_assoc, append-nil}
+use Rattle.std.proofs.Common.{◌≡◌, ℕ, suc, ◌+◌, ◌==◌, cond, List, [], ◌∷◌, ◌++◌, length, refl, ap, ap₂, sym, ◌∙◌, arith, eq-eqb, ne_eqb, length-append}
+use Rattle.std.proofs.lemmas.List.{append-nil}
 use Rattle.pm_trees.specs.declared.letters.TheConstants.{BUD, OPEN, CLOSE}
 use Rattle.pm_trees.specs.Node.{own_letters}
-use Rattle.pm_trees.proofs.Tally.{tally, tally-nil, tally_yes, tally_no, tally-append}
+use Rattle.pm_trees.proofs.Tally.{tally, tally-nil, tally_no, tally-append}
 use Rattle.pm_trees.proofs.Own.{IsOther, other_here, other_above, open_above, close_above}
 use Rattle.pm_trees.proofs.Dyck.{IsDyck, bracket_then}
 use Rattle.pm_trees.proofs.Dyck.IsDyck.{empty, letter, bracket}

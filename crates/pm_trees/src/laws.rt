@@ -5,3 +5,16 @@ ghost use Rattle.pm_trees.specs.Reading.{HasOneAnswer};
 pub fn answer_is_unique()
     ensures { HasOneAnswer }
 {}
+
+ghost use Rattle.pm_trees.specs.Replanting.{EachLeafIsReplanted, LeavesAreTurned, ReplantedIsAlike, ReplantedIsUnique, ReplantingIsUndone};
+
+/// A blossoming tree can be planted at each of its leaves, in one way; it stays a blossoming tree with as many letters,
+/// leaves and nodes of each degree, its leaves are counted from the new plant on, and planting it at the old plant undoes
+/// it.
+pub fn trees_are_replanted()
+    ensures each { EachLeafIsReplanted }
+    ensures unique { ReplantedIsUnique }
+    ensures alike { ReplantedIsAlike }
+    ensures leaves { LeavesAreTurned }
+    ensures undone { ReplantingIsUndone }
+{}

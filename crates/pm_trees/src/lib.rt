@@ -11,15 +11,17 @@ mod pairs;
 mod patterns;
 mod profile;
 mod read;
+mod replanting;
 mod tree;
 
 pub use bracketing::brackets;
-pub use laws::answer_is_unique;
+pub use laws::{answer_is_unique, trees_are_replanted};
 pub use leaf_places::leaf_place;
 pub use letters::{BUD, CLOSE, LEAF, OPEN};
 pub use patterns::{SLOT, pattern, pattern_count, patterns_are_ranked, rank};
 pub use profile::{Profile, ProfileRefusal};
 pub use read::read_tree;
+pub use replanting::replant;
 pub use tree::{Tree, TreeRefusal};
 
 #[cfg(test)]
@@ -28,5 +30,7 @@ mod leaf_tests;
 mod pattern_tests;
 #[cfg(test)]
 mod profile_tests;
+#[cfg(test)]
+mod replanting_tests;
 #[cfg(test)]
 mod tests;
