@@ -7,10 +7,12 @@ pub mod LeafCounts
 pub mod LeafTurns
 pub mod Least
 pub mod Levels
+pub mod Listing
 pub mod Nesting
 pub mod Own
 pub mod PairRules
 pub mod Pairing
+pub mod Profiles
 pub mod Ranked
 pub mod Ranking
 pub mod Reading
@@ -20,6 +22,7 @@ pub mod Rings
 pub mod Spelling
 pub mod Stack
 pub mod Subtree
+pub mod Tables
 pub mod Tally
 pub mod Turns
 pub mod Unique

@@ -147,7 +147,7 @@ root_value f word =
     let b : tally BUD (own_letters 0 (contour word)) ≡ tally BUD (own_letters 0 word) = tally_no BUD LEAF (own_letters 0 word) (λ e. omega arith) in
     value_is f 0 (contour word) ∙ ap₂ f a b ∙ sym (value_is f 1 word)
 
-contour_weight : (f : ℕ → ℕ → ℕ) (word : List ℕ) → weight f (contour word) ≡ value f 1 word + inner f word
+pub contour_weight : (f : ℕ → ℕ → ℕ) (word : List ℕ) → weight f (contour word) ≡ value f 1 word + inner f word
 contour_weight f word =
     let a = weight_is f (contour word) in
     let b = root_value f word in
@@ -176,7 +176,7 @@ all_good word z node n =
 pub of_degree : ℕ → ℕ → ℕ → ℕ
 of_degree d n b = cond (n == d) 1 0
 
-of_degree_is : (d n b : ℕ) → of_degree d n b ≡ cond (n == d) 1 0
+pub of_degree_is : (d n b : ℕ) → of_degree d n b ≡ cond (n == d) 1 0
 unfolding of_degree
 of_degree_is d n b = refl
 

@@ -17,7 +17,7 @@ own_skip d _ zs (bracket xs ys a b) =
     ap (own_letters (suc d)) (bracket_then xs ys zs) ∙ open_above d (xs ++ CLOSE ∷ (ys ++ zs)) ∙ own_skip (suc d) xs (CLOSE ∷ (ys ++ zs)) a
     ∙ close_above (suc d) (ys ++ zs) ∙ own_skip d ys zs b
 
-own_bracket : (xs zs : List ℕ) → IsDyck xs → own_letters 0 (OPEN ∷ (xs ++ CLOSE ∷ zs)) ≡ OPEN ∷ own_letters 0 zs
+pub own_bracket : (xs zs : List ℕ) → IsDyck xs → own_letters 0 (OPEN ∷ (xs ++ CLOSE ∷ zs)) ≡ OPEN ∷ own_letters 0 zs
 own_bracket xs zs a = ap (λ (ls : List ℕ). OPEN ∷ ls) (own_skip 0 xs (CLOSE ∷ zs) a ∙ close_above 0 zs)
 
 own_join : (xs zs : List ℕ) → IsDyck xs → own_letters 0 (xs ++ zs) ≡ own_letters 0 xs ++ own_letters 0 zs
@@ -85,6 +85,12 @@ inner_join f _ zs (bracket xs ys a b) =
     let m = inner_join f ys zs b in
     let n = ap (inner f) (bracket_then xs ys zs) in
     omega (arith, k, l, m, n)
+
+pub inner_of_bracket : (f : ℕ → ℕ → ℕ) (xs ys : List ℕ) → IsDyck xs → inner f (OPEN ∷ (xs ++ CLOSE ∷ ys)) ≡ value f 1 xs + inner f xs + inner f ys
+inner_of_bracket f xs ys a =
+    let j = inner_join f xs (CLOSE ∷ ys) a in
+    let k = inner_other f CLOSE ys (λ e. omega arith) in
+    inner_bracket f xs ys a (omega (arith, j, k))
 
 -- the sum over all nodes
 pub weight : (ℕ → ℕ → ℕ) → List ℕ → ℕ

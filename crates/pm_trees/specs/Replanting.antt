@@ -3,7 +3,7 @@ use Rattle.std.specs.Prelude.{◌≡◌, ℕ, ◌+◌, ◌-◌, ◌%◌, ◌<◌
 use Rattle.pm_trees.specs.Word.{contour}
 use Rattle.pm_trees.specs.Blossoming.{IsBlossoming, nodes, leaves}
 use Rattle.pm_trees.specs.Leaves.{IsLeafAt}
-use Rattle.pm_trees.specs.Degrees.{nodes_of}
+use Rattle.pm_trees.specs.Degrees.{IsProfileOf, nodes_of}
 use Rattle.pm_trees.specs.Replanted.{IsReplanted, place_from}
 
 -- the number that a leaf gets where the leaf of another number is made the plant
@@ -40,3 +40,11 @@ LeavesAreTurned = (word : List ℕ) (leaf : ℕ) (replanted : List ℕ) → IsBl
 abbrev pub ReplantingIsUndone : Type 0
 ReplantingIsUndone = (word : List ℕ) (leaf : ℕ) (replanted : List ℕ) → IsBlossoming word → IsReplanted word leaf replanted
     → IsReplanted replanted (leaf_after word leaf 0) word
+
+-- a tree has one profile
+abbrev pub ProfileIsUnique : Type 0
+ProfileIsUnique = (word : List ℕ) (one two : List (ℕ × ℕ)) → IsProfileOf word one → IsProfileOf word two → one ≡ two
+
+-- and alike trees have the same
+abbrev pub ProfileIsKept : Type 0
+ProfileIsKept = (word other : List ℕ) (one two : List (ℕ × ℕ)) → IsAlike word other → IsProfileOf word one → IsProfileOf other two → one ≡ two

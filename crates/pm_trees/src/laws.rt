@@ -18,3 +18,11 @@ pub fn trees_are_replanted()
     ensures leaves { LeavesAreTurned }
     ensures undone { ReplantingIsUndone }
 {}
+
+ghost use Rattle.pm_trees.specs.Replanting.{ProfileIsKept, ProfileIsUnique};
+
+/// A tree has one profile, and a tree that is replanted has the same.
+pub fn profiles_are_kept()
+    ensures unique { ProfileIsUnique }
+    ensures kept { ProfileIsKept }
+{}

@@ -2,6 +2,7 @@
 #![tactic(auto)]
 
 mod bracketing;
+mod degrees;
 mod faults;
 mod laws;
 mod leaf_places;
@@ -15,7 +16,8 @@ mod replanting;
 mod tree;
 
 pub use bracketing::brackets;
-pub use laws::{answer_is_unique, trees_are_replanted};
+pub use degrees::profile_of;
+pub use laws::{answer_is_unique, profiles_are_kept, trees_are_replanted};
 pub use leaf_places::leaf_place;
 pub use letters::{BUD, CLOSE, LEAF, OPEN};
 pub use patterns::{SLOT, pattern, pattern_count, patterns_are_ranked, rank};
@@ -24,6 +26,8 @@ pub use read::read_tree;
 pub use replanting::replant;
 pub use tree::{Tree, TreeRefusal};
 
+#[cfg(test)]
+mod degree_tests;
 #[cfg(test)]
 mod leaf_tests;
 #[cfg(test)]

@@ -31,7 +31,7 @@ impl From<AllocError> for ProfileRefusal {
 /// How many nodes have which degree, seen as the list of the pairs of a degree and a count, in rising order of the degree.
 #[derive(Drop)]
 pub struct Profile {
-    pairs: Vec<(u32, u32)>,
+    pub(crate) pairs: Vec<(u32, u32)>,
 }
 
 impl Model for Profile {

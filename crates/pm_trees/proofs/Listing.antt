@@ -1,0 +1,97 @@
+-- The pairs of a table of counts, and the profile of a tree.
+use Rattle.std.proofs.Common.{◌≡◌, ◌⊎◌, ℕ, zero, suc, ◌+◌, ◌-◌, ◌*◌, ◌/◌, ◌%◌, ◌≤◌, ◌<◌, ◌==◌, cond, inl, inr, List, [], ◌∷◌, ◌++◌, length, take, slice_index, get_or, IsTrue, refl, ap, ap₂, sym, ◌∙◌, subst, arith, take_all, eq-eqb, ne_eqb, ltb}
+use Rattle.std.proofs.lemmas.Bool.{cases_eq, cases_lt, cases_order}
+use Rattle.std.proofs.lemmas.List.{get_or_append_left, get_or_push, length_push, append_assoc, get_or_past}
+use Rattle.pm_trees.specs.Pairs.{pair_at, degree_before}
+use Rattle.pm_trees.specs.Degrees.{AreListed}
+
+-- the pairs of the numbers below i
+pub record AreListedBelow (counts : List ℕ) (pairs : List (ℕ × ℕ)) (i : ℕ) : Type 0 where
+  pub rising : (k : ℕ) → k < length pairs → degree_before pairs k < (pair_at pairs k).0
+  pub some : (k : ℕ) → k < length pairs → 0 < (pair_at pairs k).1
+  pub counted : (k : ℕ) → k < length pairs → (pair_at pairs k).1 ≡ slice_index counts (pair_at pairs k).0
+  pub below : (k : ℕ) → k < length pairs → (pair_at pairs k).0 < i
+  pub all : (d : ℕ) → 0 < d → d < i → 0 < slice_index counts d → (k : ℕ) × (k < length pairs) × ((pair_at pairs k).0 ≡ d)
+
+pub listed_start : (counts : List ℕ) (pairs : List (ℕ × ℕ)) → pairs ≡ [] → AreListedBelow counts pairs 1
+listed_start counts pairs e = subst (λ (ps : List (ℕ × ℕ)). AreListedBelow counts ps 1) (sym e) (record {
+  rising = λ k l. absurd (omega arith);
+  some = λ k l. absurd (omega arith);
+  counted = λ k l. absurd (omega arith);
+  below = λ k l. absurd (omega arith);
+  all = λ d l m _. absurd (omega arith);
+})
+
+pub listed_none : (counts : List ℕ) (pairs : List (ℕ × ℕ)) (i j : ℕ) → slice_index counts i ≡ 0 → j ≡ suc i → AreListedBelow counts pairs i → AreListedBelow counts pairs j
+listed_none counts pairs i j e f a = record {
+  rising = a.rising;
+  some = a.some;
+  counted = a.counted;
+  below = λ k l. let b = a.below k l in omega (arith, b, f);
+  all = λ d l m n.
+      elim (cases_eq d i) [
+        | inl same ↦ absurd (let g = ap (slice_index counts) same in omega (arith, e, g, n))
+        | inr ne ↦ a.all d l (omega arith) n
+      ];
+}
+
+old_pair : (pairs : List (ℕ × ℕ)) (p : ℕ × ℕ) (k : ℕ) → k < length pairs → pair_at (pairs ++ p ∷ []) k ≡ pair_at pairs k
+old_pair pairs p k l = get_or_append_left pairs (p ∷ []) (0, 0) k l
+
+new_pair : (pairs : List (ℕ × ℕ)) (p : ℕ × ℕ) (k : ℕ) → length pairs ≡ k → pair_at (pairs ++ p ∷ []) k ≡ p
+new_pair pairs p k e = get_or_push pairs p (0, 0) k e
+
+old_before : (pairs : List (ℕ × ℕ)) (p : ℕ × ℕ) (k : ℕ) → k ≤ length pairs → degree_before (pairs ++ p ∷ []) k ≡ degree_before pairs k
+old_before pairs p k l = ap (λ (q : ℕ × ℕ). q.0) (get_or_append_left ((0, 0) ∷ pairs) (p ∷ []) (0, 0) k (omega arith))
+
+last_below : (pairs : List (ℕ × ℕ)) (i k : ℕ) → 0 < i → k ≤ length pairs → ((j : ℕ) → j < length pairs → (pair_at pairs j).0 < i) → degree_before pairs k < i
+last_below pairs i zero l m h = l
+last_below pairs i (suc k) l m h = h k (omega arith)
+
+pub listed_push : (counts : List ℕ) (pairs more : List (ℕ × ℕ)) (i j count : ℕ) → 0 < i → count ≡ slice_index counts i → 0 < count → more ≡ pairs ++ (i, count) ∷ [] → j ≡ suc i → AreListedBelow counts pairs i → AreListedBelow counts more j
+listed_push counts pairs more i j count low e some g f a =
+    let n = length_push pairs (i, count) in
+    let both : (k : ℕ) → k < length (pairs ++ (i, count) ∷ []) → (k < length pairs) ⊎ (length pairs ≡ k) = λ k l.
+    elim (cases_lt k (length pairs)) [ inl m ↦ inl m | inr m ↦ inr (omega (arith, n)) ] in
+    subst (λ (ps : List (ℕ × ℕ)). AreListedBelow counts ps j) (sym g) (record {
+      rising = λ k l.
+          let b = old_before pairs (i, count) k (omega (arith, n)) in
+          elim (both k l) [
+            | inl m ↦ (let c = ap (λ (q : ℕ × ℕ). q.0) (old_pair pairs (i, count) k m) in let d = a.rising k m in omega (arith, b, c, d))
+            | inr m ↦ (let c = ap (λ (q : ℕ × ℕ). q.0) (new_pair pairs (i, count) k m) in let d = last_below pairs i k low (omega arith) a.below in omega (arith, b, c, d))
+          ];
+      some = λ k l.
+          elim (both k l) [
+            | inl m ↦ (let c = ap (λ (q : ℕ × ℕ). q.1) (old_pair pairs (i, count) k m) in let d = a.some k m in omega (arith, c, d))
+            | inr m ↦ (let c = ap (λ (q : ℕ × ℕ). q.1) (new_pair pairs (i, count) k m) in omega (arith, c))
+          ];
+      counted = λ k l.
+          elim (both k l) [
+            | inl m ↦ (let c = old_pair pairs (i, count) k m in ap (λ (q : ℕ × ℕ). q.1) c ∙ a.counted k m ∙ sym (ap (λ (q : ℕ × ℕ). slice_index counts q.0) c))
+            | inr m ↦ (let c = new_pair pairs (i, count) k m in ap (λ (q : ℕ × ℕ). q.1) c ∙ e ∙ sym (ap (λ (q : ℕ × ℕ). slice_index counts q.0) c))
+          ];
+      below = λ k l.
+          elim (both k l) [
+            | inl m ↦ (let c = ap (λ (q : ℕ × ℕ). q.0) (old_pair pairs (i, count) k m) in let d = a.below k m in omega (arith, c, d, f))
+            | inr m ↦ (let c = ap (λ (q : ℕ × ℕ). q.0) (new_pair pairs (i, count) k m) in omega (arith, c, f))
+          ];
+      all = λ d l m h.
+          elim (cases_eq d i) [
+            | inl same ↦ (length pairs, omega (arith, n), ap (λ (q : ℕ × ℕ). q.0) (new_pair pairs (i, count) (length pairs) refl) ∙ sym same)
+            | inr ne ↦
+                let r = a.all d l (omega arith) h in
+                (r.0, omega (arith, n, r.1), ap (λ (q : ℕ × ℕ). q.0) (old_pair pairs (i, count) r.0 r.1) ∙ r.2)
+          ];
+    })
+
+pub listed_end : (counts : List ℕ) (pairs : List (ℕ × ℕ)) (i : ℕ) → length counts ≤ i → AreListedBelow counts pairs i → AreListed counts pairs
+listed_end counts pairs i e a = record {
+  rising = a.rising;
+  some = a.some;
+  counted = a.counted;
+  all = λ d l h.
+      elim (cases_lt d i) [
+        | inl m ↦ a.all d l m h
+        | inr m ↦ absurd (let g = get_or_past counts d 0 (omega arith) in omega (arith, g, h))
+      ];
+}
