@@ -3,6 +3,7 @@ mod Gathering
 pub mod Grafts
 pub mod Grown
 pub mod Linking
+mod Placing
 pub mod Once
 pub mod Prunes
 pub mod Reading

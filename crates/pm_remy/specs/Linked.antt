@@ -34,6 +34,16 @@ pub record IsTreeIn (links places : List ℕ) (t : Tree) : Type 0 where
 abbrev pub HasTree : List ℕ → List ℕ → ℕ → Type 0
 HasTree links places size = (t : Tree) × (IsTreeIn links places t × (leaves t ≡ size))
 
+-- a list is the places of such a tree: beside some links of the same length, it holds the tree
+pub record ArePlaces (places : List ℕ) (t : Tree) : Type 0 where
+  pub links : List ℕ
+  pub long : length links ≡ length places
+  pub held : IsTreeIn links places t
+
+-- a list is the places of such a tree with so many leaves
+abbrev pub HavePlaces : List ℕ → ℕ → Type 0
+HavePlaces places size = (t : Tree) × (ArePlaces places t × (leaves t ≡ size))
+
 -- the greatest label is taken from the tree: the choice that puts it back, and the lists of the tree without it
 pub record IsTaken (t : Tree) (label choice : ℕ) (links places : List ℕ) : Type 0 where
   pub choice_is : choice ≡ last_choice label t

@@ -1,12 +1,13 @@
 ghost use Rattle.std.specs.Prelude.{◌≡◌, ℕ, suc, ◌+◌, ◌*◌, ◌<◌, ◌≤◌, ◌^◌, List, length, IfOk, OnOk};
 ghost use Rattle.pm_remy.specs.Growth.{grown, ungrown, IsChoices, IsGrowth};
-ghost use Rattle.pm_remy.specs.Linked.{IsTreeIn, HasTree};
+ghost use Rattle.pm_remy.specs.Linked.{IsTreeIn, HasTree, ArePlaces};
 ghost use Rattle.pm_remy.specs.Tree.{Tree, leaves};
 ghost use Rattle.pm_remy.specs.Words.{IsWritten, tree_of};
 
 use crate::label_tree::LabelTree;
 use crate::links::{add_leaf, link_words, take_leaf, words_of};
 use pm_limits::MAX_EDGES;
+use pm_perm::inverting::inverse;
 use std::alloc::{AllocError, Global};
 
 /// The tree that the choices grow. It begins as the leaf `0`. Choice `k`, counted from 1, is below `2 * (2 * k - 1)`:
@@ -21,10 +22,9 @@ pub fn grow(alloc: Global, choices: &[u64]) -> Result<LabelTree, AllocError>
     requires few { length choices.now ≤ MAX_EDGES }
     ensures { IfOk result (λ t. t ≡ grown choices.now) }
 {
-    let nodes = 2 * choices.len() + 1;
-    let mut links = vec![in alloc; 0u32; nodes]?;
-    let mut places = vec![in alloc; 0u32; nodes]?;
-    add_leaves(choices, &mut links, &mut places);
+    let mut places = vec![in alloc; 0u32; 2 * choices.len() + 1]?;
+    add_leaves(choices, &mut places);
+    let links = inverse(alloc, &places)?;
     words_of(alloc, &links)
 }
 
@@ -71,19 +71,18 @@ fn read_choices(
     Ok(())
 }
 
-/// Links the tree that the choices grow.
-fn add_leaves(choices: &[u64], links: &mut [u32], places: &mut [u32])
+/// Puts the nodes of the tree that the choices grow at their places. The links aren't kept meanwhile: they are the
+/// inverse of the places.
+fn add_leaves(choices: &[u64], places: &mut [u32])
     requires valid { IsChoices choices.now }
     requires few { length choices.now ≤ MAX_EDGES }
-    requires links_long { length links.old ≡ 2 * length choices.now + 1 }
     requires places_long { length places.old ≡ 2 * length choices.now + 1 }
-    ensures { IsTreeIn links.new places.new (grown choices.now) }
+    ensures { ArePlaces places.new (grown choices.now) }
 {
-    links[0] = 0;
     places[0] = 0;
     for k in 0..choices.len() {
         let choice = choices[k];
-        add_leaf(links, places, k + 1, (choice / 2) as usize, choice % 2);
+        add_leaf(places, k + 1, (choice / 2) as usize, choice % 2);
     }
 }
 

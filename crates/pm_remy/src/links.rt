@@ -1,6 +1,6 @@
 ghost use Rattle.std.specs.Prelude.{◌≡◌, ◌≢◌, ℕ, suc, ◌+◌, ◌-◌, ◌*◌, ◌/◌, ◌<◌, ◌≤◌, ◌^◌, min, max, List, length, slice_index, slice_set, IfOk, OnOk};
 ghost use Rattle.pm_remy.specs.Growth.{grafted};
-ghost use Rattle.pm_remy.specs.Linked.{IsTreeIn, HasTree, IsTaken};
+ghost use Rattle.pm_remy.specs.Linked.{IsTreeIn, HasTree, ArePlaces, HavePlaces, IsTaken};
 ghost use Rattle.pm_remy.specs.Tree.{Tree, leaves};
 ghost use Rattle.pm_remy.specs.Words.{IsWritten, tree_of};
 
@@ -42,25 +42,33 @@ fn hang_sides(links: &mut [u32], places: &mut [u32], fork: usize, left: usize, r
     hang(links, places, fork + 1, right);
 }
 
+/// Puts the two sides of a fork at its places.
+fn place_sides(places: &mut [u32], fork: usize, left: usize, right: usize)
+    requires left_in { left < length places.old }
+    requires right_in { right < length places.old }
+    requires fork_in { suc fork < 2 ^ 32 }
+    ensures { places.new ≡ slice_set (slice_set places.old left fork) right (suc fork) }
+{
+    places[left] = fork as u32;
+    places[right] = (fork + 1) as u32;
+}
+
 /// Puts a fork of the node and of the new leaf `label` at the node's place, the leaf on the right where the side is `0`.
-pub(crate) fn add_leaf(links: &mut [u32], places: &mut [u32], label: usize, node: usize, side: u64)
+pub(crate) fn add_leaf(places: &mut [u32], label: usize, node: usize, side: u64)
     requires label_in { 0 < label }
-    requires links_long { 2 * label < length links.old }
     requires places_long { 2 * label < length places.old }
-    requires links_fit { length links.old < 2 ^ 32 }
     requires places_fit { length places.old < 2 ^ 32 }
     requires node_in { node < 2 * label - 1 }
-    requires tree { HasTree links.old places.old label }
-    ensures { (t : Tree) → IsTreeIn links.old places.old t → leaves t ≡ label → IsTreeIn links.new places.new (grafted node side label t) }
+    requires tree { HavePlaces places.old label }
+    ensures { (t : Tree) → ArePlaces places.old t → leaves t ≡ label → ArePlaces places.new (grafted node side label t) }
 {
     let leaf = 2 * label;
     let fork = leaf - 1;
-    let place = places[node] as usize;
-    hang(links, places, place, fork);
+    places[fork] = places[node];
     if side == 0 {
-        hang_sides(links, places, fork, node, leaf);
+        place_sides(places, fork, node, leaf);
     } else {
-        hang_sides(links, places, fork, leaf, node);
+        place_sides(places, fork, leaf, node);
     }
 }
 
