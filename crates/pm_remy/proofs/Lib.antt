@@ -1,8 +1,10 @@
 pub mod Counts
+mod Descent
 mod Gathering
 pub mod Grafts
 pub mod Grown
 pub mod Linking
+mod Noting
 mod Placing
 pub mod Once
 pub mod Prunes

@@ -1,19 +1,20 @@
 -- The reading of a tree's words from the right, as the code keeps it: the subtrees by their root nodes' names and least labels.
-use Rattle.std.proofs.Common.{◌≡◌, ℕ, zero, suc, ◌+◌, ◌-◌, ◌*◌, ◌<◌, ◌≤◌, min, max, Bool, true, false, List, [], ◌∷◌, ◌++◌, length, get_or, take, drop, slice_index, slice_set, refl, sym, subst, ap, ap₂, ◌∙◌, inl, inr, arith, length-drop, length-set, take-append-drop, drop-cons, drop-drop}
-use Rattle.std.proofs.lemmas.Bool.{cases_lt}
+use Rattle.std.proofs.Common.{◌≡◌, ℕ, zero, suc, ◌+◌, ◌-◌, ◌*◌, ◌<◌, ◌≤◌, min, max, Bool, true, false, List, [], ◌∷◌, ◌++◌, length, get_or, take, drop, slice_index, slice_set, refl, sym, subst, ap, ap₂, ◌∙◌, inl, inr, arith, length-drop, length-set, get_or-set_same, get_or-set_other, take-append-drop, drop-cons, drop-drop}
+use Rattle.std.proofs.lemmas.Bool.{cases_lt, cases_eq}
 use Rattle.std.proofs.lemmas.List.{drop_all, length_push, same_from_push}
 use Rattle.pm_limits.specs.declared.TheConstants.{MAX_EDGES}
 use Rattle.pm_perm.specs.Permutation.{IsPermutationList}
-use Rattle.pm_remy.specs.Tree.{Tree, leaf, fork, least, name, leaves}
+use Rattle.pm_remy.specs.Tree.{Tree, leaf, fork, least, name}
 use Rattle.pm_remy.specs.Words.{forest, joined, first_of, forks_in, leaves_in, IsShape, IsWritten, tree_of}
-use Rattle.pm_remy.specs.Linked.{IsLinked, IsTreeIn}
-use Rattle.pm_remy.specs.declared.links.Subtree.{Subtree}
-use Rattle.pm_remy.proofs.Counts.{IsApart, IsBelow, apart_counted, below_counted, name-below, least-below}
+use Rattle.pm_remy.specs.Growth.{IsChoices}
+use Rattle.pm_remy.specs.Noted.{fork_choice, AreNoted, IsNotedTree}
+use Rattle.pm_remy.specs.declared.ungrowing.Subtree.{Subtree}
+use Rattle.pm_remy.proofs.Counts.{IsApart, IsBelow, name-below, least-below}
 use Rattle.pm_remy.proofs.Linking.{sides-apart}
-use Rattle.pm_remy.proofs.Once.{times, times-append, times-once, times-none, counted-labels}
+use Rattle.pm_remy.proofs.Once.{times, times-append, times-once, times-none}
 use Rattle.pm_remy.proofs.Reading.{Reads, IsFalling, falling-shape, reads-forest, shape-tree, leaves-shape}
-use Rattle.pm_remy.proofs.Waiting.{AreLinked}
-use Rattle.pm_remy.proofs.Gathering.{label_times_all, times-labels_all, AreApart, links_joined, places_joined, linked-joined, rooted-whole}
+use Rattle.pm_remy.proofs.Descent.{AreAllNoted, noted-joined, choice-low}
+use Rattle.pm_remy.proofs.Gathering.{label_times_all, times-labels_all, AreApart}
 
 -- a tree as the code keeps it
 abbrev pub subtree_of : Tree → Subtree
@@ -52,22 +53,22 @@ readable-written nodes labels h =
 abbrev pub read_trees : List Bool → List ℕ → ℕ → ℕ → List Tree
 read_trees nodes labels i j = forest (drop i nodes) (drop j labels)
 
-pub record IsGathered (L P : List ℕ) (nodes : List Bool) (labels : List ℕ) (i j : ℕ) (stack : List Subtree) : Type 0 where
+pub record IsGathered (C : List ℕ) (nodes : List Bool) (labels : List ℕ) (i j : ℕ) (stack : List Subtree) : Type 0 where
   pub nodes_left : i ≤ length nodes
   pub labels_left : j ≤ length labels
   pub as_many : length labels ≡ j + leaves_in (drop i nodes)
   pub kept : stack ≡ subtrees_of (read_trees nodes labels i j)
-  pub linked : AreLinked (slice_index L) (slice_index P) (read_trees nodes labels i j)
+  pub noted : AreAllNoted (slice_index C) (read_trees nodes labels i j)
 
-pub gathered-start : (L P : List ℕ) (nodes : List Bool) (labels : List ℕ) → IsGathered L P nodes labels (length nodes) (length labels) []
-gathered-start L P nodes labels =
+pub gathered-start : (C : List ℕ) (nodes : List Bool) (labels : List ℕ) → IsGathered C nodes labels (length nodes) (length labels) []
+gathered-start C nodes labels =
     let none : read_trees nodes labels (length nodes) (length labels) ≡ [] = ap (λ (w : List Bool). forest w (drop (length labels) labels)) (drop_all (length nodes) nodes (omega arith)) in
     record {
       nodes_left = omega arith;
       labels_left = omega arith;
       as_many = omega (arith, ap leaves_in (drop_all (length nodes) nodes (omega arith)));
       kept = ap subtrees_of (sym none);
-      linked = subst (λ (ts : List Tree). AreLinked (slice_index L) (slice_index P) ts) (sym none) tt;
+      noted = subst (λ (ts : List Tree). AreAllNoted (slice_index C) ts) (sym none) tt;
     }
 
 falling-drop : (nodes : List Bool) (i : ℕ) → IsFalling nodes → IsFalling (drop i nodes)
@@ -78,9 +79,9 @@ falling-drop nodes i h =
           omega (arith, h.ends (i + j) low, ap forks_in same, ap leaves_in same);
     }
 
-gathered-reads : (L P : List ℕ) (nodes : List Bool) (labels : List ℕ) (i j : ℕ) (stack : List Subtree) → IsReadable nodes labels → IsGathered L P nodes labels i j stack
+gathered-reads : (C : List ℕ) (nodes : List Bool) (labels : List ℕ) (i j : ℕ) (stack : List Subtree) → IsReadable nodes labels → IsGathered C nodes labels i j stack
     → Reads (drop i nodes) (drop j labels) (read_trees nodes labels i j)
-gathered-reads L P nodes labels i j stack r h =
+gathered-reads C nodes labels i j stack r h =
     reads-forest (drop i nodes) (drop j labels) (falling-drop nodes i r.falling) (omega (arith, length-drop j labels, h.as_many))
 
 -- the node before those that are read
@@ -94,18 +95,18 @@ leaves-within (true ∷ nodes) (suc i) = leaves-within nodes i
 leaves-within (false ∷ nodes) (suc i) = omega (arith, leaves-within nodes i)
 
 -- before a leaf some label is left
-pub label-left : (L P : List ℕ) (nodes : List Bool) (labels : List ℕ) (i j : ℕ) (stack : List Subtree) → IsReadable nodes labels → i < length nodes → get_or nodes i false ≡ false
-    → IsGathered L P nodes labels (suc i) j stack → 0 < j
-label-left L P nodes labels i j stack r q e h =
+pub label-left : (C : List ℕ) (nodes : List Bool) (labels : List ℕ) (i j : ℕ) (stack : List Subtree) → IsReadable nodes labels → i < length nodes → get_or nodes i false ≡ false
+    → IsGathered C nodes labels (suc i) j stack → 0 < j
+label-left C nodes labels i j stack r q e h =
     omega (arith, ap leaves_in (node-next nodes i false q e), leaves-within nodes i, r.as_many, h.as_many)
 
 pub label-low : (nodes : List Bool) (labels : List ℕ) (j : ℕ) → IsReadable nodes labels → j < length labels → slice_index labels j ≤ MAX_EDGES
 label-low nodes labels j r q = omega (arith, r.once.stays j q, r.few)
 
-pub gathered-leaf : (L P : List ℕ) (nodes : List Bool) (labels : List ℕ) (i j : ℕ) (stack : List Subtree) (s : Subtree) → i < length nodes → get_or nodes i false ≡ false
-    → suc j ≤ length labels → IsGathered L P nodes labels (suc i) (suc j) stack → s.root ≡ 2 * slice_index labels j → s.least ≡ slice_index labels j
-    → IsGathered L P nodes labels i j (stack ++ s ∷ [])
-gathered-leaf L P nodes labels i j stack s q e low h root is_least =
+pub gathered-leaf : (C : List ℕ) (nodes : List Bool) (labels : List ℕ) (i j : ℕ) (stack : List Subtree) (s : Subtree) → i < length nodes → get_or nodes i false ≡ false
+    → suc j ≤ length labels → IsGathered C nodes labels (suc i) (suc j) stack → s.root ≡ 2 * slice_index labels j → s.least ≡ slice_index labels j
+    → IsGathered C nodes labels i j (stack ++ s ∷ [])
+gathered-leaf C nodes labels i j stack s q e low h root is_least =
     let m = slice_index labels j in
     let node = node-next nodes i false q e in
     let all : read_trees nodes labels i j ≡ leaf m ∷ read_trees nodes labels (suc i) (suc j) =
@@ -116,21 +117,21 @@ gathered-leaf L P nodes labels i j stack s q e low h root is_least =
       labels_left = omega arith;
       as_many = omega (arith, h.as_many, ap leaves_in node);
       kept = ap₂ (λ (xs : List Subtree) (x : Subtree). xs ++ x ∷ []) h.kept same ∙ ap subtrees_of (sym all);
-      linked = subst (λ (ts : List Tree). AreLinked (slice_index L) (slice_index P) ts) (sym all) (tt, h.linked);
+      noted = subst (λ (ts : List Tree). AreAllNoted (slice_index C) ts) (sym all) (tt, h.noted);
     }
 
 -- before a fork its two sides are read
-pub record IsForkNext (L P : List ℕ) (nodes : List Bool) (labels : List ℕ) (i j : ℕ) : Type 0 where
+pub record IsForkNext (C : List ℕ) (nodes : List Bool) (labels : List ℕ) (i j : ℕ) : Type 0 where
   pub left : Tree
   pub right : Tree
   pub rest : List Tree
   pub trees : read_trees nodes labels (suc i) j ≡ left ∷ (right ∷ rest)
   pub apart : AreApart (length labels) (left ∷ (right ∷ rest))
 
-two-trees : (L P : List ℕ) (nodes : List Bool) (labels : List ℕ) (i j : ℕ) (ts : List Tree) → read_trees nodes labels (suc i) j ≡ ts → 1 < length ts → AreApart (length labels) ts → IsForkNext L P nodes labels i j
-two-trees L P nodes labels i j [] e q h = absurd (omega arith)
-two-trees L P nodes labels i j (l ∷ []) e q h = absurd (omega arith)
-two-trees L P nodes labels i j (l ∷ (r ∷ ts)) e q h = record { left = l; right = r; rest = ts; trees = e; apart = h }
+two-trees : (C : List ℕ) (nodes : List Bool) (labels : List ℕ) (i j : ℕ) (ts : List Tree) → read_trees nodes labels (suc i) j ≡ ts → 1 < length ts → AreApart (length labels) ts → IsForkNext C nodes labels i j
+two-trees C nodes labels i j [] e q h = absurd (omega arith)
+two-trees C nodes labels i j (l ∷ []) e q h = absurd (omega arith)
+two-trees C nodes labels i j (l ∷ (r ∷ ts)) e q h = record { left = l; right = r; rest = ts; trees = e; apart = h }
 
 times-drop : (m : ℕ) (labels : List ℕ) (j : ℕ) → times m (drop j labels) ≤ times m labels
 times-drop m labels j = omega (arith, times-append m (take j labels) (drop j labels), ap (times m) (take-append-drop j labels))
@@ -143,145 +144,149 @@ apart-reads word labels j ts once h =
       none = λ m q. omega (arith, within m, times-none labels once m q);
     }
 
-pub fork-next : (L P : List ℕ) (nodes : List Bool) (labels : List ℕ) (i j : ℕ) (stack : List Subtree) → IsReadable nodes labels → i < length nodes → get_or nodes i false ≡ true
-    → IsGathered L P nodes labels (suc i) j stack → IsForkNext L P nodes labels i j
-fork-next L P nodes labels i j stack r q e h =
-    let reads = gathered-reads L P nodes labels (suc i) j stack r h in
+pub fork-next : (C : List ℕ) (nodes : List Bool) (labels : List ℕ) (i j : ℕ) (stack : List Subtree) → IsReadable nodes labels → i < length nodes → get_or nodes i false ≡ true
+    → IsGathered C nodes labels (suc i) j stack → IsForkNext C nodes labels i j
+fork-next C nodes labels i j stack r q e h =
+    let reads = gathered-reads C nodes labels (suc i) j stack r h in
     let node = node-next nodes i true q e in
-    two-trees L P nodes labels i j (read_trees nodes labels (suc i) j) refl
+    two-trees C nodes labels i j (read_trees nodes labels (suc i) j) refl
     (omega (arith, reads.count, r.falling.ends i q, ap leaves_in node, ap forks_in node))
     (apart-reads (drop (suc i) nodes) labels j (read_trees nodes labels (suc i) j) r.once reads)
 
 -- what the code finds on its stack
-pub record ArePopped (L P : List ℕ) (stack first second : List Subtree) (left right : Subtree) : Type 0 where
+pub record ArePopped (C : List ℕ) (stack first second : List Subtree) (left right : Subtree) : Type 0 where
   pub top : stack ≡ first ++ left ∷ []
   pub next : first ≡ second ++ right ∷ []
 
-pub fork-count : (L P : List ℕ) (nodes : List Bool) (labels : List ℕ) (i j : ℕ) (stack : List Subtree) → IsReadable nodes labels → i < length nodes → get_or nodes i false ≡ true
-    → IsGathered L P nodes labels (suc i) j stack → 1 < length stack
-fork-count L P nodes labels i j stack r q e h =
-    let f = fork-next L P nodes labels i j stack r q e h in
+pub fork-count : (C : List ℕ) (nodes : List Bool) (labels : List ℕ) (i j : ℕ) (stack : List Subtree) → IsReadable nodes labels → i < length nodes → get_or nodes i false ≡ true
+    → IsGathered C nodes labels (suc i) j stack → 1 < length stack
+fork-count C nodes labels i j stack r q e h =
+    let f = fork-next C nodes labels i j stack r q e h in
     omega (arith, ap length h.kept, length-subtrees (read_trees nodes labels (suc i) j), ap length f.trees)
 
-pub record IsForkPopped (L P : List ℕ) (nodes : List Bool) (labels : List ℕ) (i j : ℕ) (second : List Subtree) (left right : Subtree) : Type 0 where
-  pub fork : IsForkNext L P nodes labels i j
+pub record IsForkPopped (C : List ℕ) (nodes : List Bool) (labels : List ℕ) (i j : ℕ) (second : List Subtree) (left right : Subtree) : Type 0 where
+  pub fork : IsForkNext C nodes labels i j
   pub left_is : left ≡ subtree_of fork.left
   pub right_is : right ≡ subtree_of fork.right
   pub second_is : second ≡ subtrees_of fork.rest
 
-pub fork-popped : (L P : List ℕ) (nodes : List Bool) (labels : List ℕ) (i j : ℕ) (stack first second : List Subtree) (left right : Subtree) → IsReadable nodes labels → i < length nodes
-    → get_or nodes i false ≡ true → IsGathered L P nodes labels (suc i) j stack → ArePopped L P stack first second left right
-    → IsForkPopped L P nodes labels i j second left right
-fork-popped L P nodes labels i j stack first second left right r q e h popped =
-    let f = fork-next L P nodes labels i j stack r q e h in
+pub fork-popped : (C : List ℕ) (nodes : List Bool) (labels : List ℕ) (i j : ℕ) (stack first second : List Subtree) (left right : Subtree) → IsReadable nodes labels → i < length nodes
+    → get_or nodes i false ≡ true → IsGathered C nodes labels (suc i) j stack → ArePopped C stack first second left right
+    → IsForkPopped C nodes labels i j second left right
+fork-popped C nodes labels i j stack first second left right r q e h popped =
+    let f = fork-next C nodes labels i j stack r q e h in
     let top = same_from_push first (subtrees_of (f.right ∷ f.rest)) left (subtree_of f.left) (sym popped.top ∙ (h.kept ∙ ap subtrees_of f.trees)) in
     let next = same_from_push second (subtrees_of f.rest) right (subtree_of f.right) (sym popped.next ∙ top.0) in
     record { fork = f; left_is = top.1; right_is = next.1; second_is = next.0 }
 
--- what the fork needs of the lists
-pub record IsForkRoom (L P : List ℕ) (left right : Subtree) : Type 0 where
+-- what the fork needs of the list
+pub record IsForkRoom (C : List ℕ) (left right : Subtree) : Type 0 where
   pub positive : 0 < max left.least right.least
-  pub fork_in : 2 * max left.least right.least < length L
-  pub left_in : left.root < length P
-  pub right_in : right.root < length P
+  pub label_in : max left.least right.least ≤ length C
+  pub left_in : left.root ≤ 2 * length C
+  pub right_in : right.root ≤ 2 * length C
+  pub left_noted : (t : Tree) × IsNotedTree C left.root left.least t
+  pub right_noted : (t : Tree) × IsNotedTree C right.root right.least t
 
-room-trees : (L P : List ℕ) (bound : ℕ) (l r : Tree) (ts : List Tree) → AreApart bound (l ∷ (r ∷ ts)) → 2 * bound ≤ suc (length L) → 2 * bound ≤ suc (length P) → IsForkRoom L P (subtree_of l) (subtree_of r)
-room-trees L P bound l r ts h room space =
+room-trees : (C : List ℕ) (bound : ℕ) (l r : Tree) (ts : List Tree) → AreApart bound (l ∷ (r ∷ ts)) → bound ≡ suc (length C) → AreAllNoted (slice_index C) (l ∷ (r ∷ ts)) → IsForkRoom C (subtree_of l) (subtree_of r)
+room-trees C bound l r ts h room noted =
     let apart : IsApart (fork l r) = record { once = λ m. omega (arith, h.once m) } in
     let left : IsBelow bound l = record { none = λ m q. omega (arith, h.none m q) } in
     let right : IsBelow bound r = record { none = λ m q. omega (arith, h.none m q) } in
     let differ = sides-apart l r apart in
     record {
       positive = omega (arith, differ);
-      fork_in = omega (arith, least-below bound l left, least-below bound r right);
+      label_in = omega (arith, least-below bound l left, least-below bound r right);
       left_in = omega (arith, name-below bound l left);
       right_in = omega (arith, name-below bound r right);
+      left_noted = (l, record { root_is = refl; least_is = refl; noted = noted.0 });
+      right_noted = (r, record { root_is = refl; least_is = refl; noted = noted.1.0 });
     }
 
-pub fork-room : (L P : List ℕ) (nodes : List Bool) (labels : List ℕ) (i j : ℕ) (second : List Subtree) (left right : Subtree) → 2 * length labels ≤ suc (length L) → 2 * length labels ≤ suc (length P)
-    → IsForkPopped L P nodes labels i j second left right → IsForkRoom L P left right
-fork-room L P nodes labels i j second left right room space h =
-    subst (λ (x : Subtree). IsForkRoom L P x right) (sym h.left_is)
-    (subst (λ (y : Subtree). IsForkRoom L P (subtree_of h.fork.left) y) (sym h.right_is)
-    (room-trees L P (length labels) h.fork.left h.fork.right h.fork.rest h.fork.apart room space))
+pub fork-room : (C : List ℕ) (nodes : List Bool) (labels : List ℕ) (i j : ℕ) (stack second : List Subtree) (left right : Subtree) → length labels ≡ suc (length C)
+    → IsGathered C nodes labels (suc i) j stack → IsForkPopped C nodes labels i j second left right → IsForkRoom C left right
+fork-room C nodes labels i j stack second left right room before h =
+    subst (λ (x : Subtree). IsForkRoom C x right) (sym h.left_is)
+    (subst (λ (y : Subtree). IsForkRoom C (subtree_of h.fork.left) y) (sym h.right_is)
+    (room-trees C (length labels) h.fork.left h.fork.right h.fork.rest h.fork.apart room (subst (λ (us : List Tree). AreAllNoted (slice_index C) us) h.fork.trees before.noted)))
 
--- the lists after the fork is linked
-pub record AreJoined (L P M Q : List ℕ) (left right s : Subtree) : Type 0 where
+-- the list after the fork is noted
+pub record AreJoined (C D : List ℕ) (left right s : Subtree) : Type 0 where
   pub root : s.root ≡ 2 * max left.least right.least - 1
   pub is_least : s.least ≡ min left.least right.least
-  pub links : M ≡ links_joined L (2 * max left.least right.least - 1) left.root right.root
-  pub places : Q ≡ places_joined P (2 * max left.least right.least - 1) left.root right.root
+  pub written : (l r : Tree) → IsNotedTree C left.root left.least l → IsNotedTree C right.root right.least r
+      → D ≡ slice_set C (max left.least right.least - 1) (fork_choice l r)
 
-gathered-joined : (L P M Q : List ℕ) (nodes : List Bool) (labels : List ℕ) (i j : ℕ) (l r : Tree) (ts : List Tree) (stack : List Subtree) (s : Subtree) → i < length nodes → get_or nodes i false ≡ true
-    → 2 * length labels ≤ suc (length L) → 2 * length labels ≤ suc (length P)
+-- what is noted then, and that each entry is a choice
+pub record IsForkNoted (C D : List ℕ) (nodes : List Bool) (labels : List ℕ) (i j : ℕ) (stack : List Subtree) : Type 0 where
+  pub gathered : IsGathered D nodes labels i j stack
+  pub valid : IsChoices D
+
+choices-set : (C : List ℕ) (i v : ℕ) → IsChoices C → v < 2 * (2 * i + 1) → i < length C → IsChoices (slice_set C i v)
+choices-set C i v h low q =
+    λ k p. elim (cases_eq k i) [
+      | inl e ↦ omega (arith, e, low, ap (slice_index (slice_set C i v)) e ∙ get_or-set_same C i v 0 q)
+      | inr e ↦ omega (arith, get_or-set_other C i k v 0 e, h k (omega (arith, length-set C i v)))
+    ]
+
+gathered-joined : (C D : List ℕ) (nodes : List Bool) (labels : List ℕ) (i j : ℕ) (l r : Tree) (ts : List Tree) (stack : List Subtree) (s : Subtree) → i < length nodes → get_or nodes i false ≡ true
+    → length labels ≡ suc (length C) → IsChoices C
     → length labels ≡ j + leaves_in (drop (suc i) nodes) → j ≤ length labels
-    → AreLinked (slice_index L) (slice_index P) (read_trees nodes labels (suc i) j)
-    → read_trees nodes labels (suc i) j ≡ l ∷ (r ∷ ts) → AreApart (length labels) (l ∷ (r ∷ ts)) → stack ≡ subtrees_of ts → AreJoined L P M Q (subtree_of l) (subtree_of r) s
-    → IsGathered M Q nodes labels i j (stack ++ s ∷ [])
-gathered-joined L P M Q nodes labels i j l r ts stack s q e room space many low linked trees apart kept h =
+    → AreAllNoted (slice_index C) (read_trees nodes labels (suc i) j)
+    → read_trees nodes labels (suc i) j ≡ l ∷ (r ∷ ts) → AreApart (length labels) (l ∷ (r ∷ ts)) → stack ≡ subtrees_of ts → AreJoined C D (subtree_of l) (subtree_of r) s
+    → IsForkNoted C D nodes labels i j (stack ++ s ∷ [])
+gathered-joined C D nodes labels i j l r ts stack s q e room valid many low noted trees apart kept h =
     let node = node-next nodes i true q e in
     let all : read_trees nodes labels i j ≡ fork l r ∷ ts = ap (λ (w : List Bool). forest w (drop j labels)) node ∙ ap joined trees in
     let same : s ≡ subtree_of (fork l r) = ap₂ (λ (x y : ℕ). let t : Subtree = record { root = x; least = y } in t) h.root h.is_least in
-    let before = subst (λ (us : List Tree). AreLinked (slice_index L) (slice_index P) us) trees linked in
-    let after = linked-joined L P (length labels) l r ts apart room space before in
+    let before = subst (λ (us : List Tree). AreAllNoted (slice_index C) us) trees noted in
+    let space = room-trees C (length labels) l r ts apart room before in
+    let here : max (least l) (least r) - 1 < length C = omega (arith, space.positive, space.label_in) in
+    let after = noted-joined C (length labels) l r ts apart here before in
+    let written = h.written l r (record { root_is = refl; least_is = refl; noted = before.0 }) (record { root_is = refl; least_is = refl; noted = before.1.0 }) in
+    let both : IsApart (fork l r) = record { once = λ m. omega (arith, apart.once m) } in
     record {
-      nodes_left = omega arith;
-      labels_left = low;
-      as_many = omega (arith, many, ap leaves_in node);
-      kept = ap₂ (λ (xs : List Subtree) (x : Subtree). xs ++ x ∷ []) kept same ∙ ap subtrees_of (sym all);
-      linked = subst (λ (us : List Tree). AreLinked (slice_index M) (slice_index Q) us) (sym all)
-          (subst (λ (xs : List ℕ). AreLinked (slice_index xs) (slice_index Q) (fork l r ∷ ts)) (sym h.links)
-          (subst (λ (xs : List ℕ). AreLinked (slice_index (links_joined L (name (fork l r)) (name l) (name r))) (slice_index xs) (fork l r ∷ ts)) (sym h.places) after));
+      gathered = record {
+        nodes_left = omega arith;
+        labels_left = low;
+        as_many = omega (arith, many, ap leaves_in node);
+        kept = ap₂ (λ (xs : List Subtree) (x : Subtree). xs ++ x ∷ []) kept same ∙ ap subtrees_of (sym all);
+        noted = subst (λ (us : List Tree). AreAllNoted (slice_index D) us) (sym all)
+            (subst (λ (xs : List ℕ). AreAllNoted (slice_index xs) (fork l r ∷ ts)) (sym written) after);
+      };
+      valid = subst (λ (xs : List ℕ). IsChoices xs) (sym written) (choices-set C (max (least l) (least r) - 1) (fork_choice l r) valid (choice-low l r both) here);
     }
 
-pub gathered-fork : (L P M Q : List ℕ) (nodes : List Bool) (labels : List ℕ) (i j : ℕ) (stack second : List Subtree) (left right s : Subtree) → i < length nodes → get_or nodes i false ≡ true
-    → 2 * length labels ≤ suc (length L) → 2 * length labels ≤ suc (length P) → IsGathered L P nodes labels (suc i) j stack
-    → IsForkPopped L P nodes labels i j second left right → AreJoined L P M Q left right s → IsGathered M Q nodes labels i j (second ++ s ∷ [])
-gathered-fork L P M Q nodes labels i j stack second left right s q e room space h popped joins =
-    gathered-joined L P M Q nodes labels i j popped.fork.left popped.fork.right popped.fork.rest second s q e room space h.as_many h.labels_left h.linked
+pub gathered-fork : (C D : List ℕ) (nodes : List Bool) (labels : List ℕ) (i j : ℕ) (stack second : List Subtree) (left right s : Subtree) → i < length nodes → get_or nodes i false ≡ true
+    → length labels ≡ suc (length C) → IsChoices C → IsGathered C nodes labels (suc i) j stack
+    → IsForkPopped C nodes labels i j second left right → AreJoined C D left right s → IsForkNoted C D nodes labels i j (second ++ s ∷ [])
+gathered-fork C D nodes labels i j stack second left right s q e room valid h popped joins =
+    gathered-joined C D nodes labels i j popped.fork.left popped.fork.right popped.fork.rest second s q e room valid h.as_many h.labels_left h.noted
     popped.fork.trees popped.fork.apart popped.second_is
-    (subst (λ (x : Subtree). AreJoined L P M Q x (subtree_of popped.fork.right) s) popped.left_is
-    (subst (λ (y : Subtree). AreJoined L P M Q left y s) popped.right_is joins))
+    (subst (λ (x : Subtree). AreJoined C D x (subtree_of popped.fork.right) s) popped.left_is
+    (subst (λ (y : Subtree). AreJoined C D left y s) popped.right_is joins))
 
 -- at the end one tree is read, the whole
-pub record IsWholeRead (L P : List ℕ) (t : Tree) (stack : List Subtree) : Type 0 where
+pub record IsWholeRead (C : List ℕ) (t : Tree) (stack : List Subtree) : Type 0 where
   pub kept : stack ≡ subtree_of t ∷ []
-  pub linked : IsLinked (slice_index L) (slice_index P) t
+  pub noted : AreNoted (slice_index C) t
 
-one-read : (L P : List ℕ) (ts : List Tree) (stack : List Subtree) → length ts ≡ 1 → stack ≡ subtrees_of ts → AreLinked (slice_index L) (slice_index P) ts → IsWholeRead L P (first_of ts) stack
-one-read L P [] stack e kept linked = absurd (omega arith)
-one-read L P (t ∷ []) stack e kept linked = record { kept = kept; linked = linked.0 }
-one-read L P (t ∷ (u ∷ ts)) stack e kept linked = absurd (omega arith)
+one-read : (C : List ℕ) (ts : List Tree) (stack : List Subtree) → length ts ≡ 1 → stack ≡ subtrees_of ts → AreAllNoted (slice_index C) ts → IsWholeRead C (first_of ts) stack
+one-read C [] stack e kept noted = absurd (omega arith)
+one-read C (t ∷ []) stack e kept noted = record { kept = kept; noted = noted.0 }
+one-read C (t ∷ (u ∷ ts)) stack e kept noted = absurd (omega arith)
 
-pub whole-read : (L P : List ℕ) (nodes : List Bool) (labels : List ℕ) (j : ℕ) (stack : List Subtree) → IsReadable nodes labels → IsGathered L P nodes labels 0 j stack
-    → IsWholeRead L P (tree_of nodes labels) stack
+pub whole-read : (C : List ℕ) (nodes : List Bool) (labels : List ℕ) (j : ℕ) (stack : List Subtree) → IsReadable nodes labels → IsGathered C nodes labels 0 j stack
+    → IsWholeRead C (tree_of nodes labels) stack
 unfolding tree_of
-whole-read L P nodes labels j stack r h =
+whole-read C nodes labels j stack r h =
     let none : j ≡ 0 = omega (arith, h.as_many, r.as_many) in
-    let start = subst (λ (n : ℕ). IsGathered L P nodes labels 0 n stack) none h in
-    let reads = gathered-reads L P nodes labels 0 0 stack r start in
-    one-read L P (forest nodes labels) stack (omega (arith, reads.count, r.sum)) start.kept start.linked
+    let start = subst (λ (n : ℕ). IsGathered C nodes labels 0 n stack) none h in
+    let reads = gathered-reads C nodes labels 0 0 stack r start in
+    one-read C (forest nodes labels) stack (omega (arith, reads.count, r.sum)) start.kept start.noted
 
-pub tree-read : (L P : List ℕ) (nodes : List Bool) (labels : List ℕ) (stack : List Subtree) → IsWritten nodes labels → 2 * length labels ≤ suc (length L) → 2 * length labels ≤ suc (length P)
-    → IsWholeRead L P (tree_of nodes labels) stack
-    → IsTreeIn (slice_set L 0 (name (tree_of nodes labels))) (slice_set P (name (tree_of nodes labels)) 0) (tree_of nodes labels)
-tree-read L P nodes labels stack w room space h =
-    let t = tree_of nodes labels in
-    let once = w.labelled.once in
-    let counted = counted-labels t once in
-    let size : leaves t ≡ length labels = ap length w.labels_stand in
-    let n = name t in
-    let links = length-set L 0 n in
-    let places = length-set P n 0 in
-    record {
-      rooted = rooted-whole L P (leaves t) t (apart_counted (leaves t) t counted) (below_counted (leaves t) t counted) (omega arith) (omega arith) h.linked;
-      once = once;
-      links_room = omega arith;
-      places_room = omega arith;
-    }
+pub gathered-at : (C : List ℕ) (nodes : List Bool) (labels : List ℕ) (n i j : ℕ) (stack : List Subtree) → n ≡ suc i → IsGathered C nodes labels n j stack → IsGathered C nodes labels (suc i) j stack
+gathered-at C nodes labels n i j stack e h = subst (λ (m : ℕ). IsGathered C nodes labels m j stack) e h
 
-pub gathered-at : (L P : List ℕ) (nodes : List Bool) (labels : List ℕ) (n i j : ℕ) (stack : List Subtree) → n ≡ suc i → IsGathered L P nodes labels n j stack → IsGathered L P nodes labels (suc i) j stack
-gathered-at L P nodes labels n i j stack e h = subst (λ (m : ℕ). IsGathered L P nodes labels m j stack) e h
-
-pub gathered-at_label : (L P : List ℕ) (nodes : List Bool) (labels : List ℕ) (i n j : ℕ) (stack : List Subtree) → n ≡ suc j → IsGathered L P nodes labels i n stack → IsGathered L P nodes labels i (suc j) stack
-gathered-at_label L P nodes labels i n j stack e h = subst (λ (m : ℕ). IsGathered L P nodes labels i m stack) e h
+pub gathered-at_label : (C : List ℕ) (nodes : List Bool) (labels : List ℕ) (i n j : ℕ) (stack : List Subtree) → n ≡ suc j → IsGathered C nodes labels i n stack → IsGathered C nodes labels i (suc j) stack
+gathered-at_label C nodes labels i n j stack e h = subst (λ (m : ℕ). IsGathered C nodes labels i m stack) e h

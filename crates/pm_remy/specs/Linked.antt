@@ -3,7 +3,6 @@
 -- name. The lists stand here for their entries, `slice_index`.
 use Rattle.std.specs.Prelude.{◌≡◌, ℕ, suc, ◌*◌, ◌≤◌, List, length, slice_index}
 use Rattle.pm_perm.specs.Permutation.{IsPermutationList}
-use Rattle.pm_remy.specs.Growth.{last_choice, pruned}
 use Rattle.pm_remy.specs.Tree.{Tree, leaf, fork, name, labels_of, leaves}
 
 -- the node hangs at the place
@@ -30,10 +29,6 @@ pub record IsTreeIn (links places : List ℕ) (t : Tree) : Type 0 where
   pub links_room : 2 * leaves t ≤ suc (length links)
   pub places_room : 2 * leaves t ≤ suc (length places)
 
--- two lists hold such a tree with so many leaves
-abbrev pub HasTree : List ℕ → List ℕ → ℕ → Type 0
-HasTree links places size = (t : Tree) × (IsTreeIn links places t × (leaves t ≡ size))
-
 -- a list is the places of such a tree: beside some links of the same length, it holds the tree
 pub record ArePlaces (places : List ℕ) (t : Tree) : Type 0 where
   pub links : List ℕ
@@ -43,8 +38,3 @@ pub record ArePlaces (places : List ℕ) (t : Tree) : Type 0 where
 -- a list is the places of such a tree with so many leaves
 abbrev pub HavePlaces : List ℕ → ℕ → Type 0
 HavePlaces places size = (t : Tree) × (ArePlaces places t × (leaves t ≡ size))
-
--- the greatest label is taken from the tree: the choice that puts it back, and the lists of the tree without it
-pub record IsTaken (t : Tree) (label choice : ℕ) (links places : List ℕ) : Type 0 where
-  pub choice_is : choice ≡ last_choice label t
-  pub rest : IsTreeIn links places (pruned label t)

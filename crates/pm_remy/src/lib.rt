@@ -4,6 +4,7 @@
 mod growth;
 mod label_tree;
 mod links;
+mod ungrowing;
 
 pub use growth::{grow, ungrow};
 pub use label_tree::{LabelTree, labels, relabel, shape, tree_of_shape};
