@@ -1,5 +1,5 @@
 #!/usr/bin/env bash
-# Measures the calls on long lists, code, arrange, parts, grow and ungrow: bench/lists.sh [PROGRAM]
+# Measures the calls on long lists, code, arrange, parts, choices, tree, grow and ungrow: bench/lists.sh [PROGRAM]
 #
 # PROGRAM is the program of crates/pm_bench; without it, that one is proved and built where it isn't yet.
 #
@@ -27,4 +27,5 @@ if [ ! -f "$program" ] || [ ! -x "$program" ]; then
     echo "bench/lists.sh: no program at $program" >&2
     exit 2
 fi
-python3 -B "$top/bench/lists.py" "$folder" "$program"
+# -S: the memory of the process that measures is the least memory that it can see (measure.py).
+python3 -E -s -S -B "$top/bench/lists.py" "$folder" "$program"

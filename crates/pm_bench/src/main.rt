@@ -1,9 +1,9 @@
 //! Runs one call of the libraries on an input that is made by arithmetic, and prints a checksum of the answer, so that
 //! the call can be measured from outside.
 //!
-//! The words behind the program's name are the call, `code`, `arrange`, `parts`, `grow` or `ungrow`, then the size of its input,
-//! and for `grow` and `ungrow` a shape, `drawn` or `path`. With other words the status is 1, and a line goes to standard
-//! error.
+//! The words behind the program's name are the call, `code`, `arrange`, `parts`, `choices`, `tree`, `grow` or `ungrow`,
+//! then the size of its input, and for the last four a shape, `drawn` or `path`. With other words the status is 1, and a
+//! line goes to standard error.
 #![tactic(auto)]
 
 mod inputs;
@@ -32,7 +32,7 @@ fn main(rt: HostRuntime) -> ExitCode {
     };
     let Some(order) = Order::of_words(&words) else {
         let _ = eprintln!(rt;
-            "pm_bench: words: code N, arrange N, parts N, grow N SHAPE, ungrow N SHAPE"
+            "pm_bench: words: code N, arrange N, parts N, or choices, tree, grow or ungrow with N SHAPE"
         );
         return ExitCode::FAILURE;
     };

@@ -20,9 +20,13 @@ pub enum Call {
     Code,
     /// The permutation of a code.
     Arrange,
+    /// A list of choices, and no more.
+    Choices(Shape),
     /// The tree of a list of choices.
+    Tree(Shape),
+    /// The same, and then its labels and its shape.
     Grow(Shape),
-    /// The same, and then the choices of the tree.
+    /// The tree of a list of choices, and then the choices of the tree.
     Ungrow(Shape),
     /// The map of a rotation.
     Parts,
@@ -39,8 +43,8 @@ pub struct Order {
 }
 
 impl Order {
-    /// The order that the words spell: `code N`, `arrange N`, `parts N`, `grow N SHAPE` or `ungrow N SHAPE`, where N is
-    /// at most `MAX_EDGES` and SHAPE is `drawn` or `path`.
+    /// The order that the words spell: `code N`, `arrange N`, `parts N`, or `choices`, `tree`, `grow` or `ungrow` with
+    /// `N SHAPE`, where N is at most `MAX_EDGES` and SHAPE is `drawn` or `path`.
     pub fn of_words(words: &[String]) -> Option<Order> {
         if words.len() < 2 {
             return None;
@@ -60,6 +64,8 @@ fn call_of(name: &String, rest: &[String]) -> Option<Call> {
         "code" if rest.is_empty() => Some(Call::Code),
         "arrange" if rest.is_empty() => Some(Call::Arrange),
         "parts" if rest.is_empty() => Some(Call::Parts),
+        "choices" => Some(Call::Choices(shape_of(rest)?)),
+        "tree" => Some(Call::Tree(shape_of(rest)?)),
         "grow" => Some(Call::Grow(shape_of(rest)?)),
         "ungrow" => Some(Call::Ungrow(shape_of(rest)?)),
         _ => None,

@@ -8,6 +8,9 @@ fn checksums_of_fifty(rt: HostRuntime) -> Result<(), Fail> {
     let rows = [
         (Call::Code, 8_337_462_421_909_466_322),
         (Call::Arrange, 10_974_283_717_180_151_761),
+        (Call::Choices(Shape::Drawn), 18_230_380_051_386_874_815),
+        (Call::Choices(Shape::Path), 13_186_486_132_531_183_716),
+        (Call::Tree(Shape::Drawn), 50),
         (Call::Grow(Shape::Drawn), 17_889_168_902_009_056_451),
         (Call::Grow(Shape::Path), 1_426_907_975_712_174_553),
         (Call::Ungrow(Shape::Drawn), 18_230_380_051_386_874_815),

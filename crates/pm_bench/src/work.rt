@@ -9,7 +9,8 @@ use pm_map::{MapRefusal, RootedMap};
 use pm_remy::{LabelTree, grow, labels, shape, ungrow};
 use std::alloc::{AllocError, Global};
 
-/// Makes the input of the order, runs the call once, and gives the checksum of the answer.
+/// Makes the input of the order, runs the call once, and gives the checksum of the answer. Of a tree that isn't read it
+/// gives the size.
 ///
 /// # Errors
 ///
@@ -24,6 +25,14 @@ pub fn run(alloc: Global, order: &Order) -> Result<u64, AllocError> {
         Call::Arrange => {
             let arrangement = arrange(alloc, &drawn_code(alloc, size)?)?;
             Ok(narrow_checksum(&arrangement))
+        }
+        Call::Choices(shape) => {
+            let choices = choices(alloc, size, shape)?;
+            Ok(checksum(&choices))
+        }
+        Call::Tree(shape) => {
+            let _tree = grown(alloc, size, shape)?;
+            Ok(size as u64)
         }
         Call::Grow(shape) => {
             let tree = grown(alloc, size, shape)?;
