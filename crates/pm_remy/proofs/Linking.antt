@@ -1,4 +1,4 @@
--- What a new leaf does to the two lists of a tree, and what the taking away of the greatest label does.
+-- What a new leaf does to the two lists of a tree.
 use Rattle.std.proofs.Common.{◌≡◌, ℕ, suc, ◌-◌, ◌*◌, ◌<◌, ◌≤◌, ◌≢◌, sym, subst, ap, ◌∙◌, inl, inr, arith}
 use Rattle.std.proofs.lemmas.Bool.{cases_lt, cases_eq}
 use Rattle.pm_remy.specs.Tree.{Tree, leaf, fork, least, name}
@@ -49,23 +49,6 @@ hung-after links places links_after places_after k a s p q t step h i hung =
           (record { down = step.links_stay q i other ∙ hung.down; up = step.places_stay (name t) (tree-below k t h) e ∙ hung.up })
     ]
 
--- and the other way round
-hung-before : (links places links_after places_after : ℕ → ℕ) (k a s p q : ℕ) (t : Tree) → IsStep links places links_after places_after (2 * k - 1) a p
-    → IsBelow k t → q < 2 * k - 1 → IsHung links_after places_after q (name (grafted a s k t)) → IsHung links places q (name t)
-hung-before links places links_after places_after k a s p q t step h i hung =
-    elim (cases_eq (name t) a) [
-      | inl e ↦ let same = grafted-root a s k t h e in
-          let here : q ≡ p = sym hung.up ∙ (ap places_after same ∙ step.after.up) in
-          subst (λ (x : ℕ). IsHung links places q x) (sym e)
-          (subst (λ (x : ℕ). IsHung links places x a) (sym here) step.before)
-      | inr e ↦ let same = grafted-name a s k t h e in
-          let other : q ≢ p = λ x. (let clash : name t ≡ 2 * k - 1 = sym same ∙ (sym hung.down ∙ (ap links_after x ∙ step.after.down)) in omega (arith, tree-below k t h)) in
-          record {
-            down = sym (step.links_stay q i other) ∙ (hung.down ∙ same);
-            up = sym (step.places_stay (name t) (tree-below k t h) e) ∙ (ap places_after (sym same) ∙ hung.up);
-          }
-    ]
-
 -- the new fork is linked where the node is
 linked-beside : (links places : ℕ → ℕ) (k s : ℕ) (t : Tree) → IsBelow k t → IsBranched links places s k (name t) → IsLinked links places t → IsLinked links places (beside s k t)
 linked-beside links places k s t h b linked =
@@ -86,13 +69,6 @@ linked-beside links places k s t h b linked =
           )
     ]
 
-linked-within : (links places : ℕ → ℕ) (k s : ℕ) (t : Tree) → IsLinked links places (beside s k t) → IsLinked links places t
-linked-within links places k s t linked =
-    elim (beside_cases s k t) [
-      | inl w ↦ (subst (λ (u : Tree). IsLinked links places u) w.1 linked).2
-      | inr w ↦ (subst (λ (u : Tree). IsLinked links places u) w.1 linked).3
-    ]
-
 -- the two sides of a fork, each with its new leaf
 abbrev SidesLinked : (ℕ → ℕ) → (ℕ → ℕ) → ℕ → Tree → Tree → Type 0
 SidesLinked links places f l r = IsHung links places f (name l) × IsHung links places (suc f) (name r) × IsLinked links places l × IsLinked links places r
@@ -104,13 +80,6 @@ linked-fork links places a s k l r h linked e =
     let same : name (fork l r) ≡ name (fork (grafted a s k l) (grafted a s k r)) = sym (grafted-name a s k (fork l r) h e) ∙ ap name (grafted-fork a s k l r e) in
     subst (λ (u : Tree). IsLinked links places u) (sym (grafted-fork a s k l r e))
     (subst (λ (f : ℕ). SidesLinked links places f (grafted a s k l) (grafted a s k r)) same linked)
-
-sides-linked : (links places : ℕ → ℕ) (a s k : ℕ) (l r : Tree) → IsBelow k (fork l r) → name (fork l r) ≢ a
-    → IsLinked links places (grafted a s k (fork l r)) → SidesLinked links places (name (fork l r)) (grafted a s k l) (grafted a s k r)
-sides-linked links places a s k l r h e linked =
-    let same : name (fork l r) ≡ name (fork (grafted a s k l) (grafted a s k r)) = sym (grafted-name a s k (fork l r) h e) ∙ ap name (grafted-fork a s k l r e) in
-    subst (λ (f : ℕ). SidesLinked links places f (grafted a s k l) (grafted a s k r)) (sym same)
-    (subst (λ (u : Tree). IsLinked links places u) (grafted-fork a s k l r e) linked)
 
 -- a fork of the name has no other node of that name within
 sides-same : (a s k : ℕ) (l r : Tree) → name_times a (fork l r) ≤ 1 → name (fork l r) ≡ a → (grafted a s k l ≡ l) × (grafted a s k r ≡ r)
@@ -144,27 +113,6 @@ linked-after links places links_after places_after k a s p (fork l r) step b h w
       | inr e ↦ linked-fork links_after places_after a s k l r h sides e
     ]
 
--- the lists before the step link the tree without the leaf
-pub linked-before : (links places links_after places_after : ℕ → ℕ) (k a s p : ℕ) (t : Tree) → IsStep links places links_after places_after (2 * k - 1) a p
-    → IsBelow k t → IsApart t → IsLinked links_after places_after (grafted a s k t) → IsLinked links places t
-linked-before links places links_after places_after k a s p (leaf m) step h w linked = tt
-linked-before links places links_after places_after k a s p (fork l r) step h w linked =
-    let low = fork-below k l r h w in
-    let sides : SidesLinked links_after places_after (name (fork l r)) (grafted a s k l) (grafted a s k r) =
-    elim (cases_eq (name (fork l r)) a) [
-      | inl e ↦ let same = sides-same a s k l r (names-apart (fork l r) w a) e in
-          let whole : IsLinked links_after places_after (fork l r) =
-          linked-within links_after places_after k s (fork l r) (subst (λ (u : Tree). IsLinked links_after places_after u) (grafted-here a s k (fork l r) e) linked) in
-          subst (λ (x : Tree). SidesLinked links_after places_after (name (fork l r)) x (grafted a s k r)) (sym same.0)
-          (subst (λ (y : Tree). SidesLinked links_after places_after (name (fork l r)) l y) (sym same.1) whole)
-      | inr e ↦ sides-linked links_after places_after a s k l r h e linked
-    ] in (
-      hung-before links places links_after places_after k a s p (name (fork l r)) l step (below-left k l r h) (omega arith) sides.0,
-      hung-before links places links_after places_after k a s p (suc (name (fork l r))) r step (below-right k l r h) low sides.1,
-      linked-before links places links_after places_after k a s p l step (below-left k l r h) (apart-left l r w) sides.2,
-      linked-before links places links_after places_after k a s p r step (below-right k l r h) (apart-right l r w) sides.3,
-    )
-
 -- the whole tree
 pub rooted-after : (links places links_after places_after : ℕ → ℕ) (k a s p : ℕ) (t : Tree) → IsStep links places links_after places_after (2 * k - 1) a p
     → IsBranched links_after places_after s k a → IsBelow k t → IsApart t → IsRooted links places t → IsRooted links_after places_after (grafted a s k t)
@@ -172,14 +120,6 @@ rooted-after links places links_after places_after k a s p t step b h w rooted =
     record {
       root = hung-after links places links_after places_after k a s p 0 t step h (omega (arith, tree-below k t h)) rooted.root;
       within = linked-after links places links_after places_after k a s p t step b h w rooted.within;
-    }
-
-pub rooted-before : (links places links_after places_after : ℕ → ℕ) (k a s p : ℕ) (t : Tree) → IsStep links places links_after places_after (2 * k - 1) a p
-    → IsBelow k t → IsApart t → IsRooted links_after places_after (grafted a s k t) → IsRooted links places t
-rooted-before links places links_after places_after k a s p t step h w rooted =
-    record {
-      root = hung-before links places links_after places_after k a s p 0 t step h (omega (arith, tree-below k t h)) rooted.root;
-      within = linked-before links places links_after places_after k a s p t step h w rooted.within;
     }
 
 -- a node of the tree hangs at its place
@@ -207,39 +147,3 @@ placed-within links places k b q (fork l r) h w hung i linked stands =
 
 pub placed : (links places : ℕ → ℕ) (k b : ℕ) (t : Tree) → IsBelow k t → IsApart t → IsRooted links places t → 1 ≤ name_times b t → IsPlaced links places (2 * k - 1) b
 placed links places k b t h w rooted stands = placed-within links places k b 0 t h w rooted.root (omega (arith, tree-below k t h)) rooted.within stands
-
--- the new fork's sides are the node and the new leaf
-branched-beside : (links places : ℕ → ℕ) (k s : ℕ) (t : Tree) → IsBelow k t → IsLinked links places (beside s k t) → IsBranched links places s k (name t)
-branched-beside links places k s t h linked =
-    record {
-      right = λ e. elim (beside_cases s k t) [
-        | inl w ↦ let n : name (fork t (leaf k)) ≡ 2 * k - 1 = sym (ap name w.1) ∙ beside-name s k t h in
-            let whole = subst (λ (u : Tree). IsLinked links places u) w.1 linked in
-            (subst (λ (x : ℕ). IsHung links places x (name t)) n whole.0, subst (λ (x : ℕ). IsHung links places (suc x) (2 * k)) n whole.1)
-        | inr w ↦ absurd (w.0 e)
-      ];
-      left = λ e. elim (beside_cases s k t) [
-        | inl w ↦ absurd (e w.0)
-        | inr w ↦ let n : name (fork (leaf k) t) ≡ 2 * k - 1 = sym (ap name w.1) ∙ beside-name s k t h in
-            let whole = subst (λ (u : Tree). IsLinked links places u) w.1 linked in
-            (subst (λ (x : ℕ). IsHung links places x (2 * k)) n whole.0, subst (λ (x : ℕ). IsHung links places (suc x) (name t)) n whole.1)
-      ];
-    }
-
-pub branched : (links places : ℕ → ℕ) (k a s : ℕ) (t : Tree) → IsBelow k t → 1 ≤ name_times a t → IsLinked links places (grafted a s k t) → IsBranched links places s k a
-branched links places k a s (leaf m) h stands linked =
-    elim (cases_eq (name (leaf m)) a) [
-      | inl e ↦ subst (λ (x : ℕ). IsBranched links places s k x) e
-          (branched-beside links places k s (leaf m) h (subst (λ (u : Tree). IsLinked links places u) (grafted-here a s k (leaf m) e) linked))
-      | inr e ↦ absurd (omega (arith, hit_other (2 * m) a e))
-    ]
-branched links places k a s (fork l r) h stands linked =
-    elim (cases_eq (name (fork l r)) a) [
-      | inl e ↦ subst (λ (x : ℕ). IsBranched links places s k x) e
-          (branched-beside links places k s (fork l r) h (subst (λ (u : Tree). IsLinked links places u) (grafted-here a s k (fork l r) e) linked))
-      | inr e ↦ let sides = sides-linked links places a s k l r h e linked in
-          elim (cases_lt 0 (name_times a l)) [
-            | inl x ↦ branched links places k a s l (below-left k l r h) x sides.2
-            | inr x ↦ branched links places k a s r (below-right k l r h) (omega (arith, hit_other (name (fork l r)) a e)) sides.3
-          ]
-    ]

@@ -36,10 +36,6 @@ placed-left P t k a s other positive node space h e =
       held = grown-left h.links P t k a s other positive node (omega (arith, h.long)) space h.held e;
     }
 
--- the place of the node beside which the new leaf is put is one of the list
-pub place-low : (P : List ℕ) (t : Tree) (k a : ℕ) → ArePlaces P t → leaves t ≡ k → suc a < 2 * k → slice_index P a < 2 * k - 1
-place-low P t k a h e q = (placed-in h.links P t k a h.held e q).low
-
 -- the first tree
 pub start-placed : (P cs : List ℕ) → 0 < length P → slice_index P 0 ≡ 0 → ArePlaces P (grown_by cs 0)
 start-placed P cs q up =
