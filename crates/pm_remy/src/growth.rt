@@ -1,6 +1,6 @@
-ghost use Rattle.std.specs.Prelude.{◌≡◌, ◌+◌, ◌*◌, ◌≤◌, length, IfOk};
+ghost use Rattle.std.specs.Prelude.{◌≡◌, ℕ, ◌+◌, ◌*◌, ◌≤◌, List, length, IfOk};
 ghost use Rattle.pm_remy.specs.Growth.{grown, IsChoices, IsGrowth};
-ghost use Rattle.pm_remy.specs.Linked.{ArePlaces};
+ghost use Rattle.pm_remy.specs.Linked.{IsTreeIn, ArePlaces};
 
 use crate::label_tree::LabelTree;
 use crate::links::{add_leaf, words_of};
@@ -21,9 +21,7 @@ pub fn grow(alloc: Global, choices: &[u64]) -> Result<LabelTree, AllocError>
     requires few { length choices.now ≤ MAX_EDGES }
     ensures { IfOk result (λ t. t ≡ grown choices.now) }
 {
-    let mut places = vec![in alloc; 0u32; 2 * choices.len() + 1]?;
-    add_leaves(choices, &mut places);
-    let links = inverse(alloc, &places)?;
+    let links = grown_links(alloc, choices)?;
     words_of(alloc, &links)
 }
 
@@ -40,8 +38,19 @@ pub fn ungrow(alloc: Global, tree: &LabelTree) -> Result<Vec<u64>, AllocError>
     Ok(choices)
 }
 
-/// Puts the nodes of the tree that the choices grow at their places. The links aren't kept meanwhile: they are the
-/// inverse of the places.
+/// The links of the tree that the choices grow. They aren't kept while it grows: they are the inverse of its places.
+fn grown_links(alloc: Global, choices: &[u64]) -> Result<Vec<u32>, AllocError>
+    requires valid { IsChoices choices.now }
+    requires few { length choices.now ≤ MAX_EDGES }
+    ensures long { IfOk result (λ v. length v.items ≡ 2 * length choices.now + 1) }
+    ensures tree { IfOk result (λ v. (places : List ℕ) × IsTreeIn v.items places (grown choices.now)) }
+{
+    let mut places = vec![in alloc; 0u32; 2 * choices.len() + 1]?;
+    add_leaves(choices, &mut places);
+    inverse(alloc, &places)
+}
+
+/// Puts the nodes of the tree that the choices grow at their places.
 fn add_leaves(choices: &[u64], places: &mut [u32])
     requires valid { IsChoices choices.now }
     requires few { length choices.now ≤ MAX_EDGES }
