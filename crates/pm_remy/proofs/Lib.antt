@@ -5,6 +5,7 @@ pub mod Grafts
 pub mod Grown
 pub mod Linking
 mod Noting
+mod Numbering
 mod Placing
 pub mod Once
 pub mod Prunes

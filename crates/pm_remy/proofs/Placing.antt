@@ -1,12 +1,12 @@
 -- The places of a tree without its links: a new leaf in them, and the links as their inverse.
-use Rattle.std.proofs.Common.{◌≡◌, ℕ, suc, ◌-◌, ◌*◌, ◌/◌, ◌%◌, ◌<◌, ◌≢◌, List, length, set, slice_index, refl, sym, subst, ap, ◌∙◌, arith, length-set, get_or-set_same}
+use Rattle.std.proofs.Common.{◌≡◌, ℕ, suc, ◌-◌, ◌*◌, ◌/◌, ◌%◌, ◌<◌, ◌≤◌, ◌≢◌, List, length, set, slice_index, refl, sym, subst, ap, ◌∙◌, arith, length-set, get_or-set_same}
 use Rattle.pm_perm.specs.Permutation.{IsPermutationList}
 use Rattle.pm_perm.specs.Lists.{IsInverseList}
 use Rattle.pm_remy.specs.Tree.{Tree, leaf, fork, name, leaves}
 use Rattle.pm_remy.specs.Growth.{grafted, grown_by}
-use Rattle.pm_remy.specs.Linked.{IsHung, IsLinked, IsTreeIn, ArePlaces}
-use Rattle.pm_remy.proofs.Counts.{IsBelow, below-left, below-right, below_counted}
-use Rattle.pm_remy.proofs.Linking.{tree-below}
+use Rattle.pm_remy.specs.Linked.{IsHung, IsLinked, IsTreeIn, ArePlaces, IsTied, IsHeld}
+use Rattle.pm_remy.proofs.Counts.{IsApart, apart-left, apart-right, apart_counted, IsBelow, below-left, below-right, below_counted}
+use Rattle.pm_remy.proofs.Linking.{tree-below, sides-apart, fork-below}
 use Rattle.pm_remy.proofs.Grown.{grown_by-zero, grown_by-suc}
 use Rattle.pm_remy.proofs.Stepping.{counted-in, placed-in, links_grown, places_grown, grown-left, grown-right}
 use Rattle.pm_remy.proofs.Unwinding.{start-in}
@@ -87,4 +87,25 @@ inverse-in P M t h e inverse =
       once = h.held.once;
       links_room = omega (arith, inverse.same_length);
       places_room = h.held.places_room;
+    }
+
+-- a linked tree is held by its links
+tied-linked : (links places : ℕ → ℕ) (k bound : ℕ) (t : Tree) → 2 * k ≤ suc bound → IsBelow k t → IsApart t → IsLinked links places t → IsTied links bound (name t) t
+tied-linked links places k bound (leaf m) q h w linked = refl
+tied-linked links places k bound (fork l r) q h w linked = (
+  omega (arith, sides-apart l r w),
+  omega (arith, fork-below k l r h w),
+  subst (λ (x : ℕ). IsTied links bound x l) (sym linked.0.down) (tied-linked links places k bound l q (below-left k l r h) (apart-left l r w) linked.2),
+  subst (λ (x : ℕ). IsTied links bound x r) (sym linked.1.down) (tied-linked links places k bound r q (below-right k l r h) (apart-right l r w) linked.3),
+)
+
+pub held-in : (L P : List ℕ) (t : Tree) → IsTreeIn L P t → IsHeld L t
+held-in L P t h =
+    let k = leaves t in
+    let counted = counted-in L P t k h refl in
+    record {
+      tied = subst (λ (x : ℕ). IsTied (slice_index L) (length L) x t) (sym h.rooted.root.down)
+          (tied-linked (slice_index L) (slice_index P) k (length L) t h.links_room (below_counted k t counted) (apart_counted k t counted) h.rooted.within);
+      once = h.once;
+      room = h.links_room;
     }

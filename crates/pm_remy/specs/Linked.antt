@@ -1,7 +1,7 @@
 -- A labelled tree in two lists by the names of its nodes. Place 0 holds the name of the root node; of the fork named f,
 -- place f holds the name of its left side and place f+1 that of its right side. The second list has the place of each
 -- name. The lists stand here for their entries, `slice_index`.
-use Rattle.std.specs.Prelude.{◌≡◌, ℕ, suc, ◌*◌, ◌≤◌, List, length, slice_index}
+use Rattle.std.specs.Prelude.{◌≡◌, ℕ, suc, ◌*◌, ◌%◌, ◌<◌, ◌≤◌, List, length, slice_index}
 use Rattle.pm_perm.specs.Permutation.{IsPermutationList}
 use Rattle.pm_remy.specs.Tree.{Tree, leaf, fork, name, labels_of, leaves}
 
@@ -38,3 +38,16 @@ pub record ArePlaces (places : List ℕ) (t : Tree) : Type 0 where
 -- a list is the places of such a tree with so many leaves
 abbrev pub HavePlaces : List ℕ → ℕ → Type 0
 HavePlaces places size = (t : Tree) × (ArePlaces places t × (leaves t ≡ size))
+
+-- A list holds a tree from a number on: a leaf is twice its label, and a fork an odd number, at which and behind which
+-- the numbers of its two sides stand.
+abbrev pub IsTied : (ℕ → ℕ) → ℕ → ℕ → Tree → Type 0
+IsTied links bound node (leaf m) = node ≡ 2 * m
+IsTied links bound node (fork left right) =
+    (node % 2 ≡ 1) × (suc node < bound) × IsTied links bound (links node) left × IsTied links bound (links (suc node)) right
+
+-- a list holds a tree whose labels are the numbers from 0 on, each once, from its first entry on
+pub record IsHeld (links : List ℕ) (t : Tree) : Type 0 where
+  pub tied : IsTied (slice_index links) (length links) (slice_index links 0) t
+  pub once : IsPermutationList (labels_of t)
+  pub room : 2 * leaves t ≤ suc (length links)

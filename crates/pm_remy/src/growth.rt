@@ -1,13 +1,18 @@
-ghost use Rattle.std.specs.Prelude.{◌≡◌, ℕ, ◌+◌, ◌*◌, ◌≤◌, List, length, IfOk};
+ghost use Rattle.std.specs.Prelude.{◌≡◌, ◌+◌, ◌*◌, ◌≤◌, length, IfOk};
 ghost use Rattle.pm_remy.specs.Growth.{grown, IsChoices, IsGrowth};
-ghost use Rattle.pm_remy.specs.Linked.{IsTreeIn, ArePlaces};
+ghost use Rattle.pm_remy.specs.Linked.{IsHeld, ArePlaces};
 
 use crate::label_tree::LabelTree;
+use crate::levels::by_level;
 use crate::links::{add_leaf, words_of};
 use crate::ungrowing::read_choices;
 use pm_limits::MAX_EDGES;
 use pm_perm::inverting::inverse;
 use std::alloc::{AllocError, Global};
+
+/// From so many choices on the forks are numbered by level before they are walked through: their links no longer fit
+/// into a processor's near caches, and a walk in the order of growth would miss them at each fork.
+const LEVELED: usize = 1 << 18;
 
 /// The tree that the choices grow. It begins as the leaf `0`. Choice `k`, counted from 1, is below `2 * (2 * k - 1)`:
 /// half of it names the node beside which the new leaf `k` is put, and its remainder is the leaf's side, `0` for the
@@ -22,7 +27,11 @@ pub fn grow(alloc: Global, choices: &[u64]) -> Result<LabelTree, AllocError>
     ensures { IfOk result (λ t. t ≡ grown choices.now) }
 {
     let links = grown_links(alloc, choices)?;
-    words_of(alloc, &links)
+    if choices.len() < LEVELED {
+        return words_of(alloc, &links);
+    }
+    let leveled = by_level(alloc, &links)?;
+    words_of(alloc, &leveled)
 }
 
 /// The choices that grow the tree.
@@ -43,7 +52,7 @@ fn grown_links(alloc: Global, choices: &[u64]) -> Result<Vec<u32>, AllocError>
     requires valid { IsChoices choices.now }
     requires few { length choices.now ≤ MAX_EDGES }
     ensures long { IfOk result (λ v. length v.items ≡ 2 * length choices.now + 1) }
-    ensures tree { IfOk result (λ v. (places : List ℕ) × IsTreeIn v.items places (grown choices.now)) }
+    ensures tree { IfOk result (λ v. IsHeld v.items (grown choices.now)) }
 {
     let mut places = vec![in alloc; 0u32; 2 * choices.len() + 1]?;
     add_leaves(choices, &mut places);

@@ -3,6 +3,7 @@
 
 mod growth;
 mod label_tree;
+mod levels;
 mod links;
 mod ungrowing;
 

@@ -1,6 +1,6 @@
-ghost use Rattle.std.specs.Prelude.{◌≡◌, ℕ, suc, ◌+◌, ◌-◌, ◌*◌, ◌<◌, ◌≤◌, ◌^◌, List, length, slice_set, IfOk};
+ghost use Rattle.std.specs.Prelude.{◌≡◌, ℕ, suc, ◌+◌, ◌-◌, ◌*◌, ◌<◌, ◌≤◌, ◌^◌, length, slice_set, IfOk};
 ghost use Rattle.pm_remy.specs.Growth.{grafted};
-ghost use Rattle.pm_remy.specs.Linked.{IsTreeIn, ArePlaces, HavePlaces};
+ghost use Rattle.pm_remy.specs.Linked.{IsHeld, ArePlaces, HavePlaces};
 ghost use Rattle.pm_remy.specs.Tree.{Tree, leaves};
 
 use crate::label_tree::LabelTree;
@@ -40,8 +40,8 @@ pub(crate) fn add_leaf(places: &mut [u32], label: usize, node: usize, side: u64)
 /// The tree that is linked: its nodes are met in preorder, and those that wait are kept with the next one last.
 pub(crate) fn words_of(alloc: Global, links: &[u32]) -> Result<LabelTree, AllocError>
     requires few { length links.now ≤ 2 * MAX_EDGES + 1 }
-    requires tree { (places : List ℕ) × ((t : Tree) × IsTreeIn links.now places t) }
-    ensures { (places : List ℕ) (t : Tree) → IsTreeIn links.now places t → IfOk result (λ u. u ≡ t) }
+    requires tree { (t : Tree) × IsHeld links.now t }
+    ensures { (t : Tree) → IsHeld links.now t → IfOk result (λ u. u ≡ t) }
 {
     let mut nodes = Vec::with_capacity(alloc, links.len())?;
     let mut leaf_labels = Vec::with_capacity(alloc, links.len() / 2 + 1)?;

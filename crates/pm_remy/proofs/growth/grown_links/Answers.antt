@@ -3,8 +3,8 @@ use Rattle.std.proofs.lemmas.List.{take_at}
 use Rattle.pm_perm.specs.Lists.{IsInverseList}
 use Rattle.pm_remy.specs.Tree.{leaves}
 use Rattle.pm_remy.specs.Growth.{grown, IsChoices}
-use Rattle.pm_remy.specs.Linked.{IsTreeIn, ArePlaces}
-use Rattle.pm_remy.proofs.Placing.{places-permuted, inverse-in}
+use Rattle.pm_remy.specs.Linked.{IsHeld, ArePlaces}
+use Rattle.pm_remy.proofs.Placing.{places-permuted, inverse-in, held-in}
 use Rattle.pm_remy.proofs.Unwinding.{leaves-grown_by}
 use Rattle.pm_remy.proofs.growth.grown_links.Goals as goal
 
@@ -37,5 +37,5 @@ returns-clause-tree c =
     let long : length P ≡ c.in_ok-places.places.len = c.add_leaves.auto.places ∙ c.deref_mut.ensures.len in
     let same : D ≡ P = c.deref.ensures.value ∙ take_at P (drop (length P) c.in_ok-places.places.items) c.in_ok-places.places.len long in
     let size = full D cs c.requires.valid (omega (arith, ap length same, long, c.in_ok-places.ensures.len)) in
-    if_ok_from c.inverse.result (λ v. IsInverseList D v.items) (λ v. (places : List ℕ) × IsTreeIn v.items places (grown cs))
-    (λ v h. (D, inverse-in D v.items (grown cs) (placed P D cs same c.add_leaves.ensures) size h)) c.inverse.ensures.inverse
+    if_ok_from c.inverse.result (λ v. IsInverseList D v.items) (λ v. IsHeld v.items (grown cs))
+    (λ v h. held-in v.items D (grown cs) (inverse-in D v.items (grown cs) (placed P D cs same c.add_leaves.ensures) size h)) c.inverse.ensures.inverse
