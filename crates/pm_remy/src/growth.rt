@@ -26,12 +26,8 @@ pub fn grow(alloc: Global, choices: &[u64]) -> Result<LabelTree, AllocError>
     requires few { length choices.now ≤ MAX_EDGES }
     ensures { IfOk result (λ t. t ≡ grown choices.now) }
 {
-    let links = grown_links(alloc, choices)?;
-    if choices.len() < LEVELED {
-        return words_of(alloc, &links);
-    }
-    let leveled = by_level(alloc, &links)?;
-    words_of(alloc, &leveled)
+    let links = walkable_links(alloc, choices)?;
+    words_of(alloc, &links)
 }
 
 /// The choices that grow the tree.
@@ -45,6 +41,20 @@ pub fn ungrow(alloc: Global, tree: &LabelTree) -> Result<Vec<u64>, AllocError>
     let mut choices = vec![in alloc; 0u64; tree.leaf_labels.len() - 1]?;
     read_choices(alloc, &tree.nodes, &tree.leaf_labels, &mut choices)?;
     Ok(choices)
+}
+
+/// Links that hold the tree that the choices grow, in an order that suits a walk.
+fn walkable_links(alloc: Global, choices: &[u64]) -> Result<Vec<u32>, AllocError>
+    requires valid { IsChoices choices.now }
+    requires few { length choices.now ≤ MAX_EDGES }
+    ensures few { IfOk result (λ v. length v.items ≤ 2 * MAX_EDGES + 1) }
+    ensures tree { IfOk result (λ v. IsHeld v.items (grown choices.now)) }
+{
+    let links = grown_links(alloc, choices)?;
+    if choices.len() < LEVELED {
+        return Ok(links);
+    }
+    by_level(alloc, &links)
 }
 
 /// The links of the tree that the choices grow. They aren't kept while it grows: they are the inverse of its places.
