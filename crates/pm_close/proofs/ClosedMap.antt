@@ -1,19 +1,19 @@
 -- The map that closing makes is the closure.
-use Rattle.std.proofs.Common.{◌≡◌, ℕ, suc, ◌*◌, ◌%◌, ◌<◌, ◌≤◌, List, length, refl, sym, ◌∙◌, ap, subst, arith}
+use Rattle.std.proofs.Common.{◌≡◌, ℕ, suc, ◌%◌, ◌<◌, List, length, sym, ◌∙◌, ap, subst, arith}
 use Rattle.std.specs.Prelude.{slice_index}
-use Rattle.pm_limits.specs.declared.TheConstants.{MAX_EDGES}
 use Rattle.pm_perm.specs.Permutation.{IsPermutationList}
-use Rattle.pm_trees.specs.Word.{IsBracketing}
+use Rattle.pm_trees.specs.Word.{contour, IsBracketing}
 use Rattle.pm_trees.proofs.Nesting.{other_below}
 use Rattle.pm_match.specs.Pairing.{Pairs, IsPairing}
 use Rattle.pm_map.specs.Structure.{CarriesTo}
-use Rattle.pm_map.specs.Rotation.{structure_of, IsRootedMap}
-use Rattle.pm_map.proofs.CarriedStructure.{structure_carried, connected_carried}
+use Rattle.pm_map.specs.Rotation.{structure_of}
 use Rattle.pm_close.specs.Closure.{IsClosed, dart_of}
+use Rattle.pm_close.specs.Level.{IsLevel, AreLevels}
+use Rattle.pm_close.specs.Levelling.{AreLevelsAt}
 use Rattle.pm_close.specs.Twinning.{IsTwinning, IsTwinList}
 use Rattle.pm_close.proofs.TwinLemmas.{twins_apart}
-use Rattle.pm_close.proofs.ClosureLemmas.{IsLaidOut, laid_out, laid_out_closes, laid_out_twins, laid_out_structure, laid_out_connected, bracketing_across}
-use Rattle.pm_close.proofs.DartLemmas.{firsts_half, dart_of_permutes, dart_of-twin, dart_of-root}
+use Rattle.pm_close.proofs.ClosureLemmas.{IsLaidOut, laid_out, laid_out_closes, laid_out_twins, bracketing_across}
+use Rattle.pm_close.proofs.DartLemmas.{dart_of_permutes, dart_of-twin, dart_of-root}
 use Rattle.pm_close.proofs.JoiningSteps.{one_partner}
 
 -- the lists that closing has made, and how they hang together
@@ -115,3 +115,16 @@ module _ (places across twins darts sigma : List ℕ) (found : Pairs) (made : Is
   } where
     carried : CarriesTo (dart_of (slice_index twins)) (laid_out places (slice_index across) (slice_index twins)) (structure_of (record { sigma = sigma; root = 0 }))
     carried = map_is_carried some
+
+  -- the levels that are written at the darts of the places are those of the closure
+  pub made_levels : (letters levels : List ℕ) → places ≡ contour letters → AreLevelsAt letters darts levels → AreLevels places levels
+  unfolding laid_out
+  made_levels letters levels is written = record {
+    closure = laid_out places (slice_index across) (slice_index twins);
+    is_closure = laid_out_closes places (slice_index across) (slice_index twins) layout;
+    as_long = written.as_long ∙ all_darts;
+    each = λ p l. subst (λ (d : ℕ). IsLevel places p (slice_index levels d)) (dart_is p l)
+        (subst (λ (xs : List ℕ). IsLevel xs p (slice_index levels (slice_index darts p))) (sym is) (written.each p (omega (arith, all_darts))));
+  } where
+    all_darts : length darts ≡ length places
+    all_darts = made.as_many_darts ∙ made.are_twins.as_long

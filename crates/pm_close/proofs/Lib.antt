@@ -2,6 +2,8 @@ pub mod ClosedMap
 pub mod ClosureLemmas
 pub mod DartLemmas
 pub mod JoiningSteps
+pub mod LevelSteps
+pub mod LowWords
 pub mod NodeVertices
 pub mod NumberingSteps
 pub mod OneClosure

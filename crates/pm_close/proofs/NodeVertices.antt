@@ -1,12 +1,12 @@
 -- Walking around a node along the ring of places gives its entries.
-use Rattle.std.proofs.Common.{◌≡◌, ◌≢◌, ℕ, zero, suc, ◌+◌, ◌-◌, ◌%◌, ◌<◌, ◌≤◌, ◌⊎◌, inl, inr, List, [], ◌∷◌, length, get_or, drop, map, refl, sym, ◌∙◌, ap, subst, lit<, arith}
+use Rattle.std.proofs.Common.{◌≡◌, ◌≢◌, ℕ, zero, suc, ◌+◌, ◌-◌, ◌%◌, ◌<◌, ◌≤◌, ◌⊎◌, inl, inr, List, [], ◌∷◌, length, drop, map, refl, sym, ◌∙◌, ap, subst, lit<, arith}
 use Rattle.std.specs.Prelude.{slice_index}
 use Rattle.std.proofs.lemmas.Bool.{cases_lt, cases_eq}
 use Rattle.std.proofs.lemmas.List.{get_or_past}
 use Rattle.std.proofs.Math.Seq.{drop-cons}
 use Rattle.pm_trees.specs.declared.letters.TheConstants.{LEAF, OPEN, CLOSE}
-use Rattle.pm_trees.specs.Word.{IsBracketPair, IsBracketing, IsInOrder, contour}
-use Rattle.pm_trees.specs.Node.{IsNode, own_letters, entries}
+use Rattle.pm_trees.specs.Word.{IsBracketPair, IsBracketing, contour}
+use Rattle.pm_trees.specs.Node.{own_letters}
 use Rattle.pm_trees.proofs.Bracketed.{bracketing_exists}
 use Rattle.pm_trees.proofs.Levels.{seen, seen_yes, seen_no, IsEven, even_start, even_other, even_pair, even_from_pair, pair_from_even}
 use Rattle.pm_trees.proofs.Nesting.{one_closer, one_opener}
@@ -14,7 +14,7 @@ use Rattle.pm_trees.proofs.Own.{IsOther, other_here, other_above, open_above, cl
 use Rattle.pm_map.specs.Structure.{Structure}
 use Rattle.pm_map.specs.Meeting.{IsVertexFrom}
 use Rattle.pm_close.specs.Closure.{IsAcross, from_open, from_close, from_letter, IsClosure}
-use Rattle.pm_close.specs.Nodes.{IsHead, IsNodeVertex, NodesAreVertices}
+use Rattle.pm_close.specs.Nodes.{IsNodeVertex, NodesAreVertices}
 use Rattle.pm_close.proofs.ClosureLemmas.{bracketing_across, across_within, succ_last}
 
 mod_below : (p n : ℕ) → p < n → p % n ≡ p

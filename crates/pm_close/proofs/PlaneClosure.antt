@@ -1,10 +1,8 @@
 -- The closure of a balanced tree is plane: its brackets are nested along the ring of places, and so are its pairs.
-use Rattle.std.proofs.Common.{◌≡◌, ◌≢◌, ℕ, zero, suc, ◌+◌, ◌*◌, ◌/◌, ◌%◌, ◌<◌, ◌≤◌, ◌⊎◌, inl, inr, Bool, true, false, not, ltb, eqb, cond, List, length, refl, sym, ◌∙◌, ap, subst, arith}
+use Rattle.std.proofs.Common.{◌≡◌, ◌≢◌, ℕ, zero, suc, ◌+◌, ◌*◌, ◌/◌, ◌%◌, ◌<◌, ◌⊎◌, inl, inr, Bool, false, not, ltb, eqb, cond, List, length, sym, ◌∙◌, ap, subst, arith}
 use Rattle.std.specs.Prelude.{slice_index}
 use Rattle.std.proofs.lemmas.Bool.{cases_lt, cases_eq, lt-ltb, le-ltb, ne_eqb}
-use Rattle.pm_perm.specs.Count.{count_below}
 use Rattle.pm_perm.specs.Cycles.{cycles}
-use Rattle.pm_perm.specs.Exchange.{IsProductBelow}
 use Rattle.pm_perm.specs.Pairs.{IsRingBelow, IsInvolutionBelow, IsNestedBelow, pairs}
 use Rattle.pm_perm.proofs.Counts.{count_below-split, count_below-parts}
 use Rattle.pm_perm.proofs.Nested.{cycles-nested}
@@ -13,19 +11,18 @@ use Rattle.pm_trees.specs.Word.{IsBracketPair, IsBracketing, contour}
 use Rattle.pm_trees.specs.Blossoming.{IsBlossoming}
 use Rattle.pm_trees.proofs.Balance.{two_more_leaves}
 use Rattle.pm_trees.proofs.Bracketed.{bracketing_exists}
-use Rattle.pm_trees.proofs.Nesting.{one_closer, opens_inside, closes_inside, other_twice, other_below}
-use Rattle.pm_match.specs.Pair.{IsPair, IsFree, IsBalanced}
-use Rattle.pm_match.proofs.Counts.{letter, letter-first, surplus_from}
+use Rattle.pm_trees.proofs.Nesting.{opens_inside, closes_inside, other_twice, other_below}
+use Rattle.pm_match.specs.Pair.{IsFree, IsBalanced}
+use Rattle.pm_match.proofs.Counts.{letter-first, surplus_from}
 use Rattle.pm_match.proofs.Meeting.{IsMeeting, pair_first}
 use Rattle.pm_match.proofs.Straight.{IsStraight, straight, bud_inside, leaf_inside, bud_before_free}
 use Rattle.pm_map.specs.Structure.{Structure, face_next}
 use Rattle.pm_map.specs.Plane.{HasEulerTwo}
-use Rattle.pm_close.specs.Closure.{IsAcross, IsClosure, AreTwins, edge_down, edge_up, pair_bud, pair_leaf, free_leaves}
+use Rattle.pm_close.specs.Closure.{IsClosure, AreTwins, edge_down, edge_up, pair_bud, pair_leaf, free_leaves}
 use Rattle.pm_close.specs.Twinning.{IsTwinning}
-use Rattle.pm_close.proofs.TwinLemmas.{HasOnePartner, twin_unique, twins_back, twin_within}
-use Rattle.pm_close.proofs.ClosureLemmas.{IsLaidOut, laid_out_twins, bracketing_across, succ_last, succ_inside}
-use Rattle.pm_close.proofs.DartLemmas.{firsts, firsts_is, firsts_half}
-use Rattle.pm_close.proofs.OneClosure.{HasAcross}
+use Rattle.pm_close.proofs.TwinLemmas.{HasOnePartner, twin_within}
+use Rattle.pm_close.proofs.ClosureLemmas.{laid_out_twins, bracketing_across, succ_last, succ_inside}
+use Rattle.pm_close.proofs.DartLemmas.{firsts_is, firsts_half}
 use Rattle.pm_close.proofs.RootedClosure.{has_across}
 
 -- how a place and its twin stand to the place across: the twin of a bracket is across, and a letter is across itself

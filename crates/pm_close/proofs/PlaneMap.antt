@@ -1,18 +1,15 @@
 -- The closure of a balanced tree is a rooted map.
-use Rattle.std.proofs.Common.{◌≡◌, ◌≢◌, ℕ, suc, ◌+◌, ◌*◌, ◌%◌, ◌<◌, ◌≤◌, List, length, refl, sym, ◌∙◌, ap, arith}
+use Rattle.std.proofs.Common.{◌≡◌, ℕ, ◌%◌, List, length, sym, ◌∙◌, ap, arith}
 use Rattle.std.specs.Prelude.{slice_index}
-use Rattle.pm_limits.specs.declared.TheConstants.{MAX_EDGES}
-use Rattle.pm_trees.specs.Word.{contour, IsBracketing}
-use Rattle.pm_trees.specs.Blossoming.{IsBlossoming}
+use Rattle.pm_trees.specs.Word.{contour}
 use Rattle.pm_trees.proofs.Bracketed.{bracketing_exists}
-use Rattle.pm_map.specs.Structure.{Structure, CarriesTo}
-use Rattle.pm_map.specs.Rotation.{RotationSystem, structure_of, IsRootedMap}
+use Rattle.pm_map.specs.Structure.{CarriesTo}
+use Rattle.pm_map.specs.Rotation.{RotationSystem, structure_of}
 use Rattle.pm_map.proofs.CarriedStructure.{structure_carried, connected_carried, euler_carried}
-use Rattle.pm_close.specs.Closure.{IsAcross, IsClosure, IsClosed, dart_of}
+use Rattle.pm_close.specs.Closure.{IsClosed, dart_of}
 use Rattle.pm_close.specs.Laws.{ClosureIsRooted}
 use Rattle.pm_close.proofs.ClosureLemmas.{IsLaidOut, laid_out, laid_out_closes, laid_out_twins, laid_out_structure, laid_out_connected, bracketing_across}
-use Rattle.pm_close.proofs.DartLemmas.{firsts, firsts_half}
-use Rattle.pm_close.proofs.OneClosure.{HasAcross}
+use Rattle.pm_close.proofs.DartLemmas.{firsts_half}
 use Rattle.pm_close.proofs.PlaneClosure.{closure_euler}
 use Rattle.pm_close.proofs.RootedClosure.{has_across}
 

@@ -1,18 +1,13 @@
 -- A tree has one closure.
-use Rattle.std.proofs.Common.{◌≡◌, ℕ, ◌%◌, List, length, sym, ◌∙◌, ap, arith}
+use Rattle.std.proofs.Common.{ℕ, List, arith}
 use Rattle.std.specs.Prelude.{slice_index}
 use Rattle.pm_trees.specs.Word.{contour}
 use Rattle.pm_trees.specs.Blossoming.{IsBlossoming}
 use Rattle.pm_trees.proofs.Balance.{two_more_leaves}
 use Rattle.pm_trees.proofs.Bracketed.{bracketing_exists}
 use Rattle.pm_match.proofs.Paired.{pairing_exists}
-use Rattle.pm_map.specs.Structure.{CarriesTo}
-use Rattle.pm_map.specs.Rotation.{RotationSystem, structure_of}
-use Rattle.pm_map.proofs.CarriedStructure.{structure_carried, connected_carried}
-use Rattle.pm_close.specs.Closure.{IsClosed, dart_of}
-use Rattle.pm_close.specs.Laws.{HasOneClosure, ClosureIsRooted}
-use Rattle.pm_close.proofs.ClosureLemmas.{IsLaidOut, laid_out, laid_out_twins, laid_out_structure, laid_out_connected, bracketing_across}
-use Rattle.pm_close.proofs.DartLemmas.{firsts_half}
+use Rattle.pm_close.specs.Laws.{HasOneClosure}
+use Rattle.pm_close.proofs.ClosureLemmas.{bracketing_across}
 use Rattle.pm_close.proofs.JoiningSteps.{one_partner}
 use Rattle.pm_close.proofs.OneClosure.{HasAcross, closed_unique}
 

@@ -3,6 +3,7 @@ ghost use Rattle.pm_close.specs.Closing.{IsClosing};
 ghost use Rattle.pm_close.specs.declared.closing.CloseRefusal.TheVariants.{Memory};
 
 use crate::joining::twins_of;
+use crate::levels::{Levels, levels_of};
 use crate::numbering::{darts_of, rotation_of};
 use pm_map::RootedMap;
 use pm_match::{matching, plant_bud};
@@ -32,6 +33,8 @@ pub struct Closed {
     /// The closure (Schaeffer 1997). Its root is dart 0. Edges are numbered in the order of their first places along the
     /// contour, and the first place of the k-th edge, from 0, is dart `2k`.
     pub map: RootedMap,
+    /// The level of each dart.
+    pub levels: Levels,
 }
 
 /// Closes a balanced tree, in time linear in its letters.
@@ -45,13 +48,15 @@ pub fn close_tree(alloc: Global, tree: &Tree) -> Result<Closed, CloseRefusal>
     if let Some(bud) = plant_bud(tree) {
         return Err(CloseRefusal::NotBalanced { bud });
     }
-    let _letters = tree.letters();
+    let letters = tree.letters();
     let across = brackets(alloc, tree)?;
     let pairing = matching(alloc, tree)?;
     let twins = twins_of(alloc, tree, &across, &pairing)?;
     let darts = darts_of(alloc, &twins)?;
     let sigma = rotation_of(alloc, &darts, &across)?;
+    let levels = levels_of(alloc, letters, &darts)?;
     Ok(Closed {
         map: RootedMap::of_rotation(sigma, 0),
+        levels,
     })
 }

@@ -4,10 +4,12 @@
 mod closing;
 mod joining;
 mod laws;
+mod levels;
 mod numbering;
 
 pub use closing::{CloseRefusal, Closed, close_tree};
 pub use laws::{closure_is_unique, nodes_are_vertices};
+pub use levels::Levels;
 
 #[cfg(test)]
 mod tests;

@@ -9,10 +9,12 @@ fn closes_one_node(rt: HostRuntime) -> Result<(), Fail> {
     let closed = close_tree(rt.alloc(), &tree)?;
     assert_eq!(rt; closed.map.root(), 0);
     assert_eq!(rt; closed.map.sigma(), [1, 2, 3, 0].as_slice());
+    assert_eq!(rt; closed.levels.values(), [0, 1, 0, 1].as_slice());
     let tree = read_tree(rt.alloc(), b"bll")?;
     let closed = close_tree(rt.alloc(), &tree)?;
     assert_eq!(rt; closed.map.root(), 0);
     assert_eq!(rt; closed.map.sigma(), [2, 0, 3, 1].as_slice());
+    assert_eq!(rt; closed.levels.values(), [0, 1, 1, 2].as_slice());
     Ok(())
 }
 
@@ -22,6 +24,7 @@ fn closes_two_nodes(rt: HostRuntime) -> Result<(), Fail> {
     let closed = close_tree(rt.alloc(), &tree)?;
     assert_eq!(rt; closed.map.root(), 0);
     assert_eq!(rt; closed.map.sigma(), [2, 0, 4, 5, 1, 6, 7, 3].as_slice());
+    assert_eq!(rt; closed.levels.values(), [0, 1, 1, 2, 2, 1, 2, 3].as_slice());
     Ok(())
 }
 

@@ -2,8 +2,10 @@ use Rattle.std.proofs.Common.{ℕ, List, length, sym, ap, ◌∙◌, subst, arit
 use Rattle.std.specs.Prelude.{slice_index}
 use Rattle.pm_trees.specs.Word.{contour, IsBracketing}
 use Rattle.pm_close.specs.Twinning.{IsTwinList}
-use Rattle.pm_close.proofs.ClosedMap.{is_made, twin_list_twins, darts_permute, across_below, made_is_closed}
+use Rattle.pm_close.proofs.ClosedMap.{is_made, twin_list_twins, darts_permute, across_below, made_is_closed, made_levels}
 use Rattle.pm_close.proofs.PlaneMap.{rooted_closure}
+use Rattle.pm_close.specs.Levelling.{IsLow, AreLevelsAt}
+use Rattle.pm_close.proofs.LowWords.{low_word}
 use Rattle.pm_close.proofs.closing.close_tree.Goals as goal
 
 pub darts_of-requires-clause-twinning : goal.darts_of-requires-clause-twinning
@@ -34,5 +36,20 @@ pub returns : goal.returns
 returns c =
     let made = is_made (contour c.args.tree.now) c.in_ok-across.across.items c.deref-4.result.now c.in_ok-twins.twins.items c.deref-2.result.now c.in_ok-darts.darts.items
     c.deref-3.result.now c.in_ok-sigma.sigma.items c.in_ok-pairing.pairing c.deref-4.ensures.value c.deref-2.ensures.value c.deref-3.ensures.value
-    c.in_ok-across.ensures c.in_ok-pairing.ensures c.in_ok-twins.ensures c.in_ok-darts.ensures.length c.in_ok-darts.ensures.each c.in_ok-sigma.ensures.length c.in_ok-sigma.ensures.each in
-    (c.in_default.ensures, rw c.of_rotation.ensures (made_is_closed _ _ _ _ _ _ made (omega arith)))
+    c.in_ok-across.ensures c.in_ok-pairing.ensures c.in_ok-twins.ensures c.in_ok-darts.ensures.length c.in_ok-darts.ensures.each c.in_ok-sigma.ensures.length c.in_ok-sigma.ensures.each in (
+      c.in_default.ensures,
+      rw c.of_rotation.ensures (made_is_closed _ _ _ _ _ _ made (omega arith)),
+      made_levels _ _ _ _ _ _ made c.letters-letters.result.now c.in_ok-levels.levels (ap contour (sym c.letters-letters.ensures.letters))
+          (subst (λ (xs : List ℕ). AreLevelsAt c.letters-letters.result.now xs c.in_ok-levels.levels) (c.deref-5.ensures.value ∙ sym c.deref-3.ensures.value) c.in_ok-levels.ensures),
+    )
+
+pub levels_of-requires-clause-low : goal.levels_of-requires-clause-low
+levels_of-requires-clause-low c =
+    subst IsLow (sym c.letters-letters.ensures.letters) (low_word c.args.tree.now c.letters-letters.ensures.balanced c.in_default.ensures)
+
+pub levels_of-requires-clause-permutation : goal.levels_of-requires-clause-permutation
+levels_of-requires-clause-permutation c =
+    let twinning = twin_list_twins (contour c.args.tree.now) c.in_ok-across.across.items c.deref-2.result.now c.in_ok-pairing.pairing c.in_ok-across.ensures c.in_ok-pairing.ensures
+    (subst (λ (xs : List ℕ). IsTwinList (contour c.args.tree.now) xs) (sym c.deref-2.ensures.value) c.in_ok-twins.ensures) in
+    darts_permute c.deref-2.result.now c.deref-5.result.now twinning (ap length c.deref-5.ensures.value ∙ c.in_ok-darts.ensures.length)
+    (λ p l. ap (λ (xs : List ℕ). slice_index xs p) c.deref-5.ensures.value ∙ c.in_ok-darts.ensures.each p l)
