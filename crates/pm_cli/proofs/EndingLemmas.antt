@@ -7,10 +7,10 @@ use Rattle.pm_io.specs.declared.TheConstants.{MAX_BYTES}
 use Rattle.pm_io.specs.Bytes.{added}
 use Rattle.pm_io.specs.Faults.{FaultsRose}
 use Rattle.pm_cli.specs.declared.words.Command.{Command}
-use Rattle.pm_cli.specs.declared.words.Command.TheVariants.{CloseEulerian}
-use Rattle.pm_cli.specs.declared.refusal.Limit.TheVariants.{Bytes, Letters}
+use Rattle.pm_cli.specs.declared.words.Command.TheVariants.{CloseEulerian, Canon, CheckGeneral}
+use Rattle.pm_cli.specs.declared.refusal.Limit.TheVariants.{Bytes, Letters, Edges}
 use Rattle.pm_cli.specs.declared.refusal.Refusal.{Refusal}
-use Rattle.pm_cli.specs.declared.refusal.Refusal.TheVariants.{Usage, Text, Limited, Tree}
+use Rattle.pm_cli.specs.declared.refusal.Refusal.TheVariants.{Usage, Text, Limited, Map, Tree}
 use Rattle.pm_cli.specs.declared.refusal.Stop.{Stop}
 use Rattle.pm_cli.specs.declared.refusal.Stop.TheVariants.{Refused, Read, Write, Memory}
 use Rattle.pm_cli.specs.Commands.{spelling, reads, IsNoCommand}
@@ -29,6 +29,8 @@ flush_failed text old mid new faults_old faults_mid faults_new whole stays calm 
 -- every command reads
 pub reads_input : (command : Command) → reads command ≡ true
 reads_input CloseEulerian = refl
+reads_input Canon = refl
+reads_input CheckGeneral = refl
 
 -- the bytes that the input holds, for a command that reads
 told : (words : List (List ℕ)) (command : Command) (left : Option (List ℕ)) (bytes : List ℕ) → words ≡ spelling command → IsInput words left bytes → left ≡ Some bytes
@@ -46,7 +48,9 @@ pub ends_reading : (words : List (List ℕ)) (command : Command) (left after old
 ends_reading words command left after old f g (Refused (Limited Bytes)) spells why bytes input =
     (too_long command spells (reads_input command) (why.over bytes (told words command left bytes spells input)), refl)
 ends_reading words command left after old f g (Refused (Limited (Letters letters))) spells why bytes input = absurd why
+ends_reading words command left after old f g (Refused (Limited (Edges edges))) spells why bytes input = absurd why
 ends_reading words command left after old f g (Refused (Usage matched)) spells why bytes input = absurd why
+ends_reading words command left after old f g (Refused (Map rule)) spells why bytes input = absurd why
 ends_reading words command left after old f g (Refused (Text line)) spells why bytes input = absurd why
 ends_reading words command left after old f g (Refused (Tree rule)) spells why bytes input = absurd why
 ends_reading words command left after old f g Read spells why bytes input = refl

@@ -1,3 +1,4 @@
 pub mod EndingLemmas
+pub mod MapFiles
 pub mod OneAnswer
 pub mod TreeLines

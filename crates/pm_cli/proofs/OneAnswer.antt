@@ -1,6 +1,7 @@
 -- Words and bytes have one answer.
 use Rattle.std.proofs.Common.{◌≡◌, ◌≢◌, ℕ, ◌<◌, ◌≤◌, ◌⊎◌, inl, inr, true, false, List, ◌++◌, ◌∷◌, [], length, refl, sym, ap, ◌∙◌, subst, arith}
-use Rattle.std.specs.Prelude.{codes, Result, Ok, Err}
+use Rattle.std.specs.Prelude.{◌/◌, codes, Option, Result, Ok, Err}
+use Rattle.pm_limits.specs.declared.TheConstants.{MAX_EDGES}
 use Rattle.pm_text.specs.Broken.{newline, IsBrokenLine}
 use Rattle.pm_text.proofs.BrokenLemmas.{valid_has_no_broken_line, broken_line_is_unique}
 use Rattle.pm_trees.specs.declared.tree.Tree.{Tree as Read}
@@ -12,23 +13,31 @@ use Rattle.pm_trees.proofs.Unique.{one_answer}
 use Rattle.pm_match.specs.Pair.{IsPair}
 use Rattle.pm_match.proofs.Meeting.{pair_unique_leaf}
 use Rattle.pm_map.specs.Structure.{Structure}
-use Rattle.pm_map.specs.Rotation.{RotationSystem, structure_of}
+use Rattle.pm_map.specs.declared.refusal.MapRefusal.TheVariants as made
+use Rattle.pm_map.specs.Rotation.{RotationSystem, structure_of, IsRootedMap}
 use Rattle.pm_map.specs.Canonical.{IsCanonicalOf}
 use Rattle.pm_map.proofs.UniqueMeeting.{meeting_list_is_unique}
 use Rattle.pm_map.proofs.UniqueCanonical.{canonical_map_is_unique}
+use Rattle.pm_mapfile.specs.declared.refusal.FileRefusal.{FileRefusal}
+use Rattle.pm_mapfile.specs.declared.refusal.FileRefusal.TheVariants as reading
 use Rattle.pm_mapfile.specs.MapText.{IsMapText, map_text}
+use Rattle.pm_mapfile.specs.Answers.{AnswersFile, IsMapFileAnswer}
+use Rattle.pm_mapfile.proofs.OneAnswer.{one_file_answer}
 use Rattle.pm_close.proofs.RootedClosure.{one_closure}
 use Rattle.pm_close.proofs.PlaneMap.{rooted_closure}
 use Rattle.pm_cli.specs.declared.words.Command.{Command}
-use Rattle.pm_cli.specs.declared.words.Command.TheVariants.{CloseEulerian}
+use Rattle.pm_cli.specs.declared.words.Command.TheVariants.{CloseEulerian, Canon, CheckGeneral}
 use Rattle.pm_cli.specs.declared.refusal.Limit.{Limit}
-use Rattle.pm_cli.specs.declared.refusal.Limit.TheVariants.{Bytes, Letters}
+use Rattle.pm_cli.specs.declared.refusal.Limit.TheVariants.{Bytes, Letters, Edges}
+use Rattle.pm_cli.specs.declared.refusal.MapRule.{MapRule}
+use Rattle.pm_cli.specs.declared.refusal.MapRule.TheVariants.{Permutation, Connected, Euler}
 use Rattle.pm_cli.specs.declared.refusal.TreeRule.{TreeRule}
 use Rattle.pm_cli.specs.declared.refusal.TreeRule.TheVariants.{Degree, Buds, Matched}
 use Rattle.pm_cli.specs.declared.refusal.Refusal.{Refusal}
-use Rattle.pm_cli.specs.declared.refusal.Refusal.TheVariants.{Usage, Text, Limited, Tree}
+use Rattle.pm_cli.specs.declared.refusal.Refusal.TheVariants.{Usage, Text, Limited, Map, Tree}
 use Rattle.pm_cli.specs.TreeFile.{IsTreeLine, IsTreeFile, HasWord}
 use Rattle.pm_cli.specs.Closing.{ClosesTo, IsMatchedPlant, ClosesEulerian}
+use Rattle.pm_cli.specs.MapCommands.{HasMap, RefusesMapFile, AnswersMapFile, HasCanonicalText, IsCountsText}
 use Rattle.pm_cli.specs.Commands.{spelling, IsNoCommand}
 use Rattle.pm_cli.specs.Answer.{Answers, no_command, too_long, of_file, CommandAnswers}
 use Rattle.pm_cli.specs.Laws.{HasOneAnswer}
@@ -55,6 +64,8 @@ reading_of_answer (Err (Tree (Buds place))) word = Err (rule.Buds place)
 reading_of_answer (Err (Tree (Matched bud))) word = Ok word
 reading_of_answer (Err (Text line)) word = Err rule.Memory
 reading_of_answer (Err (Limited Bytes)) word = Err rule.Memory
+reading_of_answer (Err (Limited (Edges edges))) word = Err rule.Memory
+reading_of_answer (Err (Map broken)) word = Err rule.Memory
 reading_of_answer (Err (Usage matched)) word = Err rule.Memory
 
 -- what an answer says of the word
@@ -86,6 +97,8 @@ word_or_line bytes (Err (Tree (Degree place))) h = inl (record { word = h.word; 
 word_or_line bytes (Err (Tree (Buds place))) h = inl (record { word = h.word; spelled = h.spelled; reading = h.holds; no_memory = λ e. cc; about = tt })
 word_or_line bytes (Err (Tree (Matched bud))) h = inl (record { word = h.word; spelled = h.spelled; reading = (refl, h.holds.blossoming); no_memory = λ e. cc; about = h.holds })
 word_or_line bytes (Err (Limited Bytes)) h = absurd h
+word_or_line bytes (Err (Limited (Edges edges))) h = absurd h
+word_or_line bytes (Err (Map broken)) h = absurd h
 word_or_line bytes (Err (Usage matched)) h = absurd h
 
 -- answers with one reading, of one word
@@ -98,6 +111,8 @@ by_reading word (Ok text) (Err (Tree (Degree place))) e n x y = cc
 by_reading word (Ok text) (Err (Tree (Buds place))) e n x y = cc
 by_reading word (Ok text) (Err (Limited (Letters letters))) e n x y = cc
 by_reading word (Ok text) (Err (Limited Bytes)) e n x y = cc
+by_reading word (Ok text) (Err (Limited (Edges edges))) e n x y = cc
+by_reading word (Ok text) (Err (Map broken)) e n x y = cc
 by_reading word (Ok text) (Err (Text line)) e n x y = cc
 by_reading word (Ok text) (Err (Usage matched)) e n x y = cc
 by_reading word (Err (Tree (Matched bud))) (Ok text) e n x y = absurd (y.balanced.alone bud x.pair)
@@ -106,6 +121,8 @@ by_reading word (Err (Tree (Matched bud))) (Err (Tree (Degree place))) e n x y =
 by_reading word (Err (Tree (Matched bud))) (Err (Tree (Buds place))) e n x y = cc
 by_reading word (Err (Tree (Matched bud))) (Err (Limited (Letters letters))) e n x y = cc
 by_reading word (Err (Tree (Matched bud))) (Err (Limited Bytes)) e n x y = cc
+by_reading word (Err (Tree (Matched bud))) (Err (Limited (Edges edges))) e n x y = cc
+by_reading word (Err (Tree (Matched bud))) (Err (Map broken)) e n x y = cc
 by_reading word (Err (Tree (Matched bud))) (Err (Text line)) e n x y = cc
 by_reading word (Err (Tree (Matched bud))) (Err (Usage matched)) e n x y = cc
 by_reading word (Err (Tree (Degree place))) (Err (Tree (Degree other))) e n x y = cc
@@ -115,6 +132,8 @@ by_reading word (Err (Tree (Degree place))) b e n x y = degree_only word place b
   degree_only word place (Err (Text line)) e = cc
   degree_only word place (Err (Usage matched)) e = cc
   degree_only word place (Err (Limited Bytes)) e = cc
+  degree_only word place (Err (Limited (Edges edges))) e = cc
+  degree_only word place (Err (Map broken)) e = cc
   degree_only word place (Err (Limited (Letters letters))) e = cc
   degree_only word place (Err (Tree (Degree other))) e = cc
   degree_only word place (Err (Tree (Buds other))) e = cc
@@ -125,6 +144,8 @@ by_reading word (Err (Tree (Buds place))) b e n x y = buds_only word place b e w
   buds_only word place (Err (Text line)) e = cc
   buds_only word place (Err (Usage matched)) e = cc
   buds_only word place (Err (Limited Bytes)) e = cc
+  buds_only word place (Err (Limited (Edges edges))) e = cc
+  buds_only word place (Err (Map broken)) e = cc
   buds_only word place (Err (Limited (Letters letters))) e = cc
   buds_only word place (Err (Tree (Degree other))) e = cc
   buds_only word place (Err (Tree (Buds other))) e = cc
@@ -135,12 +156,16 @@ by_reading word (Err (Limited (Letters letters))) b e n x y = letters_only word 
   letters_only word letters (Err (Text line)) e = cc
   letters_only word letters (Err (Usage matched)) e = cc
   letters_only word letters (Err (Limited Bytes)) e = cc
+  letters_only word letters (Err (Limited (Edges edges))) e = cc
+  letters_only word letters (Err (Map broken)) e = cc
   letters_only word letters (Err (Limited (Letters other))) e = cc
   letters_only word letters (Err (Tree (Degree other))) e = cc
   letters_only word letters (Err (Tree (Buds other))) e = cc
   letters_only word letters (Err (Tree (Matched other))) e = cc
 by_reading word (Err (Text line)) b e n x y = absurd (n refl)
 by_reading word (Err (Limited Bytes)) b e n x y = absurd (n refl)
+by_reading word (Err (Limited (Edges edges))) b e n x y = absurd (n refl)
+by_reading word (Err (Map broken)) b e n x y = absurd (n refl)
 by_reading word (Err (Usage matched)) b e n x y = absurd (n refl)
 
 -- a file closes to one answer
@@ -163,9 +188,98 @@ closes_once bytes a b x y = elim (word_or_line bytes a x) [
       let about : about_word a q.word = subst (λ (w : List ℕ). about_word a w) same p.about in
       by_reading q.word a b (one_answer q.word (reading_of_answer a q.word) (reading_of_answer b q.word) reading q.reading no_memory q.no_memory) no_memory about q.about
 
+-- a map has one text of its canonical map
+one_canonical_text : (m : RotationSystem) (a b : List ℕ) → IsRootedMap m → HasCanonicalText m a → HasCanonicalText m b → a ≡ b
+one_canonical_text m a b rooted x y =
+    let canonical : x.canonical ≡ y.canonical = canonical_map_is_unique m x.canonical y.canonical rooted x.is_canonical y.is_canonical in
+    one_text y.canonical a b (subst (λ (k : RotationSystem). IsMapText k a) canonical x.is_text) y.is_text
+
+-- a map has one text of its counts
+one_counts_text : (m : RotationSystem) (a b : List ℕ) → IsRootedMap m → IsCountsText m a → IsCountsText m b → a ≡ b
+one_counts_text m a b rooted x y = x ∙ sym y
+
+-- the map of a map file is a rooted map
+rooted_map : (bytes : List ℕ) (limit : ℕ) (residue : Option (List ℕ)) (m : RotationSystem) → AnswersFile bytes limit residue (Ok m) → IsRootedMap m
+rooted_map bytes limit residue m h = subst IsRootedMap (sym h.answered.answered.0) h.answered.answered.1
+
+-- the refusal of a command for that of the reading of its map file
+refusal_of : FileRefusal → Refusal
+refusal_of (reading.Text line) = Text line
+refusal_of (reading.Map (made.TooMany edges)) = Limited (Edges edges)
+refusal_of (reading.Map (made.NotPermutation dart)) = Map (Permutation dart)
+refusal_of (reading.Map (made.NotConnected dart)) = Map (Connected dart)
+refusal_of (reading.Map (made.Genus number)) = Map (Euler number)
+refusal_of (reading.Map made.Memory) = Usage 0
+refusal_of reading.Memory = Usage 0
+
+-- a refused map file
+record IsRefusedMap (bytes : List ℕ) (limit : ℕ) (refusal : Refusal) : Type 0 where
+  why : FileRefusal
+  is : refusal ≡ refusal_of why
+  answered : IsMapFileAnswer bytes limit (Err why)
+  told : ◌≡◌ {A = Result (RotationSystem × Option (List ℕ)) FileRefusal} (Err why) (Err reading.Memory) → ⊥
+
+refused_map : (limit : ℕ) (bytes : List ℕ) (refusal : Refusal) → RefusesMapFile limit bytes refusal → IsRefusedMap bytes limit refusal
+unfolding refusal_of
+refused_map limit bytes (Text line) h = record { why = reading.Text line; is = refl; answered = h; told = λ e. cc }
+refused_map limit bytes (Limited (Edges edges)) h = record { why = reading.Map (made.TooMany edges); is = refl; answered = (h, λ e. cc); told = λ e. cc }
+refused_map limit bytes (Map (Permutation dart)) h = record { why = reading.Map (made.NotPermutation dart); is = refl; answered = (h, λ e. cc); told = λ e. cc }
+refused_map limit bytes (Map (Connected dart)) h = record { why = reading.Map (made.NotConnected dart); is = refl; answered = (h, λ e. cc); told = λ e. cc }
+refused_map limit bytes (Map (Euler number)) h = record { why = reading.Map (made.Genus number); is = refl; answered = (h, λ e. cc); told = λ e. cc }
+refused_map limit bytes (Limited Bytes) h = absurd h
+refused_map limit bytes (Limited (Letters letters)) h = absurd h
+refused_map limit bytes (Tree broken) h = absurd h
+refused_map limit bytes (Usage matched) h = absurd h
+
+map_of : RotationSystem → Result (RotationSystem × Option (List ℕ)) FileRefusal → RotationSystem
+map_of other (Ok read) = read.0
+map_of other (Err why) = other
+
+-- one reading of a map file has one map, or one refusal, and not both
+same_map : (m n : RotationSystem) (r q : Option (List ℕ)) → ◌≡◌ {A = Result (RotationSystem × Option (List ℕ)) FileRefusal} (Ok (m, r)) (Ok (n, q)) → m ≡ n
+unfolding map_of
+same_map m n r q e = ap (map_of m) e
+
+differ : (m : RotationSystem) (r : Option (List ℕ)) (why : FileRefusal) → ◌≡◌ {A = Result (RotationSystem × Option (List ℕ)) FileRefusal} (Ok (m, r)) (Err why) → ⊥
+differ m r why e = cc
+
+same_why : (f g : FileRefusal) → ◌≡◌ {A = Result (RotationSystem × Option (List ℕ)) FileRefusal} (Err f) (Err g) → f ≡ g
+same_why f g e = cc
+
+not_both : (limit : ℕ) (P : RotationSystem → List ℕ → Type 0) (bytes text : List ℕ) (refusal : Refusal) → HasMap bytes limit (λ m. P m text) → RefusesMapFile limit bytes refusal → ⊥
+not_both limit P bytes text refusal x y =
+    let no = refused_map limit bytes refusal y in
+    differ x.map x.residue no.why (one_file_answer bytes limit (Ok (x.map, x.residue)) (Err no.why) x.answered no.answered (λ e. cc) no.told)
+
+-- a text for each map is one answer to each map file
+map_answers_once : (limit : ℕ) (P : RotationSystem → List ℕ → Type 0) → ((m : RotationSystem) (a b : List ℕ) → IsRootedMap m → P m a → P m b → a ≡ b)
+    → (bytes : List ℕ) (a b : Result (List ℕ) Refusal) → AnswersMapFile limit P bytes a → AnswersMapFile limit P bytes b → a ≡ b
+map_answers_once limit P one bytes (Ok text) (Ok other) x y = ap Ok (texts limit P one bytes text other x y) where
+  texts : (limit : ℕ) (P : RotationSystem → List ℕ → Type 0) → ((m : RotationSystem) (a b : List ℕ) → IsRootedMap m → P m a → P m b → a ≡ b)
+      → (bytes text other : List ℕ) → HasMap bytes limit (λ m. P m text) → HasMap bytes limit (λ m. P m other) → text ≡ other
+  texts limit P one bytes text other x y =
+      let read = one_file_answer bytes limit (Ok (x.map, x.residue)) (Ok (y.map, y.residue)) x.answered y.answered (λ e. cc) (λ e. cc) in
+      one y.map text other (rooted_map bytes limit y.residue y.map y.answered)
+      (subst (λ (m : RotationSystem). P m text) (same_map x.map y.map x.residue y.residue read) x.holds) y.holds
+map_answers_once limit P one bytes (Ok text) (Err refusal) x y = absurd (not_both limit P bytes text refusal x y)
+map_answers_once limit P one bytes (Err refusal) (Ok text) x y = absurd (not_both limit P bytes text refusal y x)
+map_answers_once limit P one bytes (Err refusal) (Err other) x y =
+    let first = refused_map limit bytes refusal x in
+    let second = refused_map limit bytes other y in
+    let same = one_file_answer bytes limit (Err first.why) (Err second.why) first.answered second.answered first.told second.told in
+    ap Err (first.is ∙ ap refusal_of (same_why first.why second.why same) ∙ sym second.is)
+
 -- a command has one answer to a file
 answers_once : (command other : Command) (bytes : List ℕ) (a b : Result (List ℕ) Refusal) → spelling command ≡ spelling other → CommandAnswers command bytes a → CommandAnswers other bytes b → a ≡ b
 answers_once CloseEulerian CloseEulerian bytes a b same x y = closes_once bytes a b x y
+answers_once Canon Canon bytes a b same x y = map_answers_once MAX_EDGES HasCanonicalText one_canonical_text bytes a b x y
+answers_once CheckGeneral CheckGeneral bytes a b same x y = map_answers_once (MAX_EDGES / 2) IsCountsText one_counts_text bytes a b x y
+answers_once CloseEulerian Canon bytes a b same x y = cc
+answers_once CloseEulerian CheckGeneral bytes a b same x y = cc
+answers_once Canon CloseEulerian bytes a b same x y = cc
+answers_once Canon CheckGeneral bytes a b same x y = cc
+answers_once CheckGeneral CloseEulerian bytes a b same x y = cc
+answers_once CheckGeneral Canon bytes a b same x y = cc
 
 pub has_one_answer : HasOneAnswer
 has_one_answer words bytes one other (no_command k none) (no_command j none') =

@@ -2,16 +2,19 @@
 use Rattle.std.specs.Prelude.{◌≡◌, ℕ, ◌<◌, ◌≤◌, true, List, length, Result, Err}
 use Rattle.pm_io.specs.declared.TheConstants.{MAX_BYTES}
 use Rattle.pm_cli.specs.declared.words.Command.{Command}
-use Rattle.pm_cli.specs.declared.words.Command.TheVariants.{CloseEulerian}
+use Rattle.pm_cli.specs.declared.words.Command.TheVariants.{CloseEulerian, Canon, CheckGeneral}
 use Rattle.pm_cli.specs.declared.refusal.Limit.TheVariants.{Bytes}
 use Rattle.pm_cli.specs.declared.refusal.Refusal.{Refusal}
 use Rattle.pm_cli.specs.declared.refusal.Refusal.TheVariants.{Usage, Limited}
 use Rattle.pm_cli.specs.Commands.{spelling, reads, IsNoCommand}
 use Rattle.pm_cli.specs.Closing.{ClosesEulerian}
+use Rattle.pm_cli.specs.MapCommands.{Canonizes, ChecksGeneral}
 
 -- what a command answers to a file within the limit
 abbrev pub CommandAnswers : Command → List ℕ → Result (List ℕ) Refusal → Type 0
 CommandAnswers CloseEulerian bytes answer = ClosesEulerian bytes answer
+CommandAnswers Canon bytes answer = Canonizes bytes answer
+CommandAnswers CheckGeneral bytes answer = ChecksGeneral bytes answer
 
 -- the answer, by the first rule that applies
 pub data Answers (words : List (List ℕ)) (bytes : List ℕ) : Result (List ℕ) Refusal → Type 0 where

@@ -1,9 +1,9 @@
 -- What `close eulerian` answers to a file.
 use Rattle.std.specs.Prelude.{ℕ, List, Result, Ok, Err}
-use Rattle.pm_cli.specs.declared.refusal.Limit.TheVariants.{Bytes, Letters}
+use Rattle.pm_cli.specs.declared.refusal.Limit.TheVariants.{Bytes, Letters, Edges}
 use Rattle.pm_cli.specs.declared.refusal.TreeRule.TheVariants.{Degree, Buds, Matched}
 use Rattle.pm_cli.specs.declared.refusal.Refusal.{Refusal}
-use Rattle.pm_cli.specs.declared.refusal.Refusal.TheVariants.{Usage, Text, Limited, Tree}
+use Rattle.pm_cli.specs.declared.refusal.Refusal.TheVariants.{Usage, Text, Limited, Map, Tree}
 use Rattle.pm_text.specs.Broken.{IsBrokenLine}
 use Rattle.pm_trees.specs.Word.{contour}
 use Rattle.pm_trees.specs.Blossoming.{IsBlossoming}
@@ -39,4 +39,6 @@ ClosesEulerian bytes (Err (Tree (Degree place))) = HasWord bytes (λ word. HasBa
 ClosesEulerian bytes (Err (Tree (Buds place))) = HasWord bytes (λ word. HasBadBuds word place)
 ClosesEulerian bytes (Err (Tree (Matched bud))) = HasWord bytes (IsMatchedPlant bud)
 ClosesEulerian bytes (Err (Limited Bytes)) = ⊥
+ClosesEulerian bytes (Err (Limited (Edges edges))) = ⊥
+ClosesEulerian bytes (Err (Map rule)) = ⊥
 ClosesEulerian bytes (Err (Usage matched)) = ⊥

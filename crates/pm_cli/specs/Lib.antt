@@ -5,4 +5,6 @@ pub mod Commands
 pub mod Ending
 pub mod Laws
 pub mod Lines
+pub mod MapCommands
+pub mod MapReading
 pub mod TreeFile

@@ -1,11 +1,14 @@
 -- The statuses of the program, and the lines that it writes to its standard error.
 use Rattle.std.specs.Prelude.{ℕ, List, [], ◌∷◌, ◌++◌, codes, decimal, Result, Ok, Err}
+use Rattle.std.specs.Fmt.{signed_decimal}
 use Rattle.pm_cli.specs.declared.refusal.Limit.{Limit}
-use Rattle.pm_cli.specs.declared.refusal.Limit.TheVariants.{Bytes, Letters}
+use Rattle.pm_cli.specs.declared.refusal.Limit.TheVariants.{Bytes, Letters, Edges}
+use Rattle.pm_cli.specs.declared.refusal.MapRule.{MapRule}
+use Rattle.pm_cli.specs.declared.refusal.MapRule.TheVariants.{Permutation, Connected, Euler}
 use Rattle.pm_cli.specs.declared.refusal.TreeRule.{TreeRule}
 use Rattle.pm_cli.specs.declared.refusal.TreeRule.TheVariants.{Degree, Buds, Matched}
 use Rattle.pm_cli.specs.declared.refusal.Refusal.{Refusal}
-use Rattle.pm_cli.specs.declared.refusal.Refusal.TheVariants.{Usage, Text, Limited, Tree}
+use Rattle.pm_cli.specs.declared.refusal.Refusal.TheVariants.{Usage, Text, Limited, Map, Tree}
 use Rattle.pm_cli.specs.declared.refusal.Stop.{Stop}
 use Rattle.pm_cli.specs.declared.refusal.Stop.TheVariants.{Refused, Read, Write, Memory}
 
@@ -14,6 +17,7 @@ abbrev pub status_of_refusal : Refusal → ℕ
 status_of_refusal (Usage matched) = 2
 status_of_refusal (Text line) = 3
 status_of_refusal (Limited limit) = 7
+status_of_refusal (Map rule) = 6
 status_of_refusal (Tree rule) = 12
 
 -- the status of a run that stopped
@@ -35,6 +39,12 @@ line text = codes "planarmap: " ++ text ++ 10 ∷ []
 abbrev pub text_of_limit : Limit → List ℕ
 text_of_limit Bytes = codes "limit bytes"
 text_of_limit (Letters letters) = codes "limit letters " ++ decimal letters
+text_of_limit (Edges edges) = codes "limit edges " ++ decimal edges
+
+abbrev pub text_of_map_rule : MapRule → List ℕ
+text_of_map_rule (Permutation dart) = codes "map permutation " ++ decimal dart
+text_of_map_rule (Connected dart) = codes "map connected " ++ decimal dart
+text_of_map_rule (Euler number) = codes "map euler " ++ signed_decimal number
 
 abbrev pub text_of_rule : TreeRule → List ℕ
 text_of_rule (Degree place) = codes "tree degree " ++ decimal place
@@ -45,6 +55,7 @@ abbrev pub text_of_refusal : Refusal → List ℕ
 text_of_refusal (Usage matched) = codes "usage " ++ decimal matched
 text_of_refusal (Text line) = codes "text " ++ decimal line
 text_of_refusal (Limited limit) = text_of_limit limit
+text_of_refusal (Map rule) = text_of_map_rule rule
 text_of_refusal (Tree rule) = text_of_rule rule
 
 abbrev pub text_of_stop : Stop → List ℕ

@@ -2,6 +2,8 @@ ghost use Rattle.std.specs.Prelude.{◌≤◌, length};
 ghost use Rattle.pm_io.specs.declared.TheConstants.{MAX_BYTES as limit};
 ghost use Rattle.pm_cli.specs.Answering.{IsAnswerOf};
 
+use crate::canon::canonize;
+use crate::check::check_general;
 use crate::close::close_eulerian;
 use crate::refusal::Stop;
 use crate::words::Command;
@@ -14,5 +16,7 @@ pub(crate) fn answer(alloc: Global, command: Command, bytes: &[u8]) -> Result<Ve
 {
     match command {
         Command::CloseEulerian => close_eulerian(alloc, bytes),
+        Command::Canon => canonize(alloc, bytes),
+        Command::CheckGeneral => check_general(alloc, bytes),
     }
 }

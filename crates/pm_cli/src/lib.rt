@@ -2,16 +2,19 @@
 #![tactic(auto)]
 
 mod answer;
+mod canon;
+mod check;
 mod close;
 mod engine;
 mod laws;
+mod map_file;
 mod refusal;
 mod tree_file;
 mod words;
 
 pub use engine::run;
 pub use laws::words_and_bytes_have_one_answer;
-pub use refusal::{Limit, Refusal, Stop, TreeRule};
+pub use refusal::{Limit, MapRule, Refusal, Stop, TreeRule};
 pub use words::Command;
 
 #[cfg(test)]

@@ -1,5 +1,5 @@
 ghost use Rattle.std.specs.Prelude.{◌≡◌, IfOk, string_bytes};
-ghost use Rattle.pm_cli.specs.Lines.{line, text_of_limit, text_of_rule, text_of_refusal, status_of_refusal, status_of_stop};
+ghost use Rattle.pm_cli.specs.Lines.{line, text_of_limit, text_of_map_rule, text_of_rule, text_of_refusal, status_of_refusal, status_of_stop};
 
 use std::alloc::{AllocError, Global};
 
@@ -10,6 +10,19 @@ pub enum Limit {
     Bytes,
     /// More letters than a tree may have: how many.
     Letters { letters: u64 },
+    /// More edges than the command takes: how many.
+    Edges { edges: u64 },
+}
+
+/// A rule that a map breaks. Darts are those of the file.
+#[derive(Clone, Copy, Debug, PartialEq, Eq)]
+pub enum MapRule {
+    /// The least dart that stands on no line.
+    Permutation { dart: u32 },
+    /// The least dart that isn't reached from the root.
+    Connected { dart: u32 },
+    /// Vertices less edges plus faces, where that isn't 2.
+    Euler { number: i64 },
 }
 
 /// A rule that a tree breaks. Places count from 0, the plant.
@@ -32,6 +45,8 @@ pub enum Refusal {
     Text { line: u32 },
     /// A limit that is passed.
     Limited(Limit),
+    /// A rule that the map breaks.
+    Map(MapRule),
     /// A rule that the tree breaks.
     Tree(TreeRule),
 }
@@ -69,6 +84,7 @@ impl Refusal {
             Refusal::Usage { .. } => 2,
             Refusal::Text { .. } => 3,
             Refusal::Limited(_) => 7,
+            Refusal::Map(_) => 6,
             Refusal::Tree(_) => 12,
         }
     }
@@ -81,6 +97,7 @@ impl Refusal {
             Refusal::Usage { matched } => format!(in alloc; "planarmap: usage {matched}\n"),
             Refusal::Text { line } => format!(in alloc; "planarmap: text {line}\n"),
             Refusal::Limited(limit) => limit.line(alloc),
+            Refusal::Map(rule) => rule.line(alloc),
             Refusal::Tree(rule) => rule.line(alloc),
         }
     }
@@ -95,6 +112,21 @@ impl Limit {
             Limit::Letters { letters } => {
                 format!(in alloc; "planarmap: limit letters {letters}\n")
             }
+            Limit::Edges { edges } => format!(in alloc; "planarmap: limit edges {edges}\n"),
+        }
+    }
+}
+
+impl MapRule {
+    fn line(self, alloc: Global) -> Result<String, AllocError>
+        ensures { IfOk result (λ text. string_bytes text ≡ line (text_of_map_rule self)) }
+    {
+        match self {
+            MapRule::Permutation { dart } => {
+                format!(in alloc; "planarmap: map permutation {dart}\n")
+            }
+            MapRule::Connected { dart } => format!(in alloc; "planarmap: map connected {dart}\n"),
+            MapRule::Euler { number } => format!(in alloc; "planarmap: map euler {number}\n"),
         }
     }
 }

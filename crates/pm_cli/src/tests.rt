@@ -193,3 +193,201 @@ fn failing_streams(rt: HostRuntime) -> Result<(), Fail> {
     assert_eq!(rt; run.out.bytes(), b"".as_slice());
     Ok(())
 }
+
+// The map of four edges is renumbered; the residue line is read and not used.
+#[test]
+fn answers_to_map_files(rt: HostRuntime) -> Result<(), Fail> {
+    for (line, bytes, want) in [
+        (
+            "canon",
+            b"map 4 7\nv 7 0 2 6\nv 1 3 5 4\nend\nresidue 0 0 1 0\n".as_slice(),
+            b"map 4 0\nv 0 2 4 1\nv 3 5 6 7\nend\n".as_slice(),
+        ),
+        (
+            "canon",
+            b"map 0 0\nend\n".as_slice(),
+            b"map 0 0\nend\n".as_slice(),
+        ),
+        (
+            "canon",
+            b"map 2 0\nv 0 1 2 3\nend\n".as_slice(),
+            b"map 2 0\nv 0 1 2 3\nend\n".as_slice(),
+        ),
+        (
+            "check general",
+            b"map 2 0\nv 0 1 2 3\nend\n".as_slice(),
+            b"ok 1 2 3\n".as_slice(),
+        ),
+        (
+            "check general",
+            b"map 4 7\nv 7 0 2 6\nv 1 3 5 4\nend\nresidue 0 0 1 0\n".as_slice(),
+            b"ok 2 4 4\n".as_slice(),
+        ),
+        (
+            "check general",
+            b"map 0 0\nend\n".as_slice(),
+            b"ok 1 0 1\n".as_slice(),
+        ),
+        (
+            "check general",
+            b"map 1 1\nv 0\nv 1\nend\nresidue\n".as_slice(),
+            b"ok 2 1 1\n".as_slice(),
+        ),
+    ] {
+        let run = run_on(&rt, rt.alloc(), line, bytes, NONE)?;
+        assert_eq!(rt; run.status, 0);
+        assert_eq!(rt; run.out.bytes(), want);
+        assert_eq!(rt; run.err.bytes(), b"".as_slice());
+    }
+    Ok(())
+}
+
+#[test]
+fn refusals_of_map_files(rt: HostRuntime) -> Result<(), Fail> {
+    for (line, bytes, status, want) in [
+        (
+            "canon x",
+            b"".as_slice(),
+            2,
+            b"planarmap: usage 1\n".as_slice(),
+        ),
+        (
+            "check",
+            b"".as_slice(),
+            2,
+            b"planarmap: usage 1\n".as_slice(),
+        ),
+        (
+            "check quadratic",
+            b"".as_slice(),
+            2,
+            b"planarmap: usage 1\n".as_slice(),
+        ),
+        (
+            "check general 2",
+            b"".as_slice(),
+            2,
+            b"planarmap: usage 2\n".as_slice(),
+        ),
+        (
+            "check general",
+            b"".as_slice(),
+            3,
+            b"planarmap: text 1\n".as_slice(),
+        ),
+        (
+            "check general",
+            b"map 2 0\nv 0 1 2 3\n".as_slice(),
+            3,
+            b"planarmap: text 3\n".as_slice(),
+        ),
+        (
+            "check general",
+            b"map 02 0\n".as_slice(),
+            3,
+            b"planarmap: text 1\n".as_slice(),
+        ),
+        (
+            "check general",
+            b"map 2 0\nv 0 1 2 4\nend\n".as_slice(),
+            3,
+            b"planarmap: text 2\n".as_slice(),
+        ),
+        (
+            "check general",
+            b"map 2 0\nv 0 1 2\nend\n".as_slice(),
+            3,
+            b"planarmap: text 3\n".as_slice(),
+        ),
+        (
+            "check general",
+            b"map 2 0\nv 0 1 2 3\nv 0\nend\n".as_slice(),
+            3,
+            b"planarmap: text 3\n".as_slice(),
+        ),
+        (
+            "check general",
+            b"map 0 1\nend\n".as_slice(),
+            3,
+            b"planarmap: text 1\n".as_slice(),
+        ),
+        (
+            "check general",
+            b"map 0 0\nv 0\nend\n".as_slice(),
+            3,
+            b"planarmap: text 2\n".as_slice(),
+        ),
+        (
+            "check general",
+            b"map 1 2\nv 0\nv 1\nend\n".as_slice(),
+            3,
+            b"planarmap: text 1\n".as_slice(),
+        ),
+        (
+            "check general",
+            b"map 18446744073709551616 0\nend\n".as_slice(),
+            3,
+            b"planarmap: text 1\n".as_slice(),
+        ),
+        (
+            "check general",
+            b"map 9223372036854775808 0\nv 4294967296\nend\n".as_slice(),
+            3,
+            b"planarmap: text 3\n".as_slice(),
+        ),
+        (
+            "check general",
+            b"map 2 0\nv 0 1 2 2\nend\nx\n".as_slice(),
+            3,
+            b"planarmap: text 4\n".as_slice(),
+        ),
+        (
+            "check general",
+            b"map 2 0\nv\nend\n".as_slice(),
+            3,
+            b"planarmap: text 2\n".as_slice(),
+        ),
+        (
+            "check general",
+            b"map 2 0\nv 0 1 2 3 \nend\n".as_slice(),
+            3,
+            b"planarmap: text 2\n".as_slice(),
+        ),
+        (
+            "check general",
+            b"map 2 0\nv 0 1 2 3\nend\nresidue 1\nresidue 1\n".as_slice(),
+            3,
+            b"planarmap: text 5\n".as_slice(),
+        ),
+        (
+            "check general",
+            b"map 2 0\nv 0 1 2 2\nend\n".as_slice(),
+            6,
+            b"planarmap: map permutation 3\n".as_slice(),
+        ),
+        (
+            "check general",
+            b"map 2 0\nv 0 2 1 3\nend\n".as_slice(),
+            6,
+            b"planarmap: map euler 0\n".as_slice(),
+        ),
+        (
+            "canon",
+            b"map 2 0\nv 0 2 1 3\nend\n".as_slice(),
+            6,
+            b"planarmap: map euler 0\n".as_slice(),
+        ),
+        (
+            "check general",
+            b"map 4 0\nv 0 1 2 3\nv 4 6 5 7\nend\n".as_slice(),
+            6,
+            b"planarmap: map connected 4\n".as_slice(),
+        ),
+    ] {
+        let run = run_on(&rt, rt.alloc(), line, bytes, NONE)?;
+        assert_eq!(rt; run.status, status, "at {line}");
+        assert_eq!(rt; run.err.bytes(), want);
+        assert_eq!(rt; run.out.bytes(), b"".as_slice());
+    }
+    Ok(())
+}

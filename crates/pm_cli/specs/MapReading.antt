@@ -1,0 +1,29 @@
+-- What the code that reads the map of a map file answers.
+use Rattle.std.specs.Prelude.{◌≡◌, ℕ, List, Option, Result, Ok, Err, ⊤}
+use Rattle.pm_map.specs.declared.rooted_map.RootedMap.{RootedMap}
+use Rattle.pm_map.specs.declared.refusal.MapRefusal.{MapRefusal}
+use Rattle.pm_map.specs.declared.refusal.MapRefusal.TheVariants.{Memory as MemoryOfMap, TooMany, NotPermutation, NotConnected, Genus}
+use Rattle.pm_mapfile.specs.Answers.{AnswersFile}
+use Rattle.pm_cli.specs.declared.refusal.Limit.TheVariants.{Edges}
+use Rattle.pm_cli.specs.declared.refusal.MapRule.TheVariants.{Permutation, Connected, Euler}
+use Rattle.pm_cli.specs.declared.refusal.Refusal.{Refusal}
+use Rattle.pm_cli.specs.declared.refusal.Refusal.TheVariants.{Limited, Map}
+use Rattle.pm_cli.specs.declared.refusal.Stop.{Stop}
+use Rattle.pm_cli.specs.declared.refusal.Stop.TheVariants.{Refused, Read, Write, Memory}
+use Rattle.pm_cli.specs.MapCommands.{RefusesMapFile}
+
+-- how a run stops where the lines of a map file make no map
+abbrev pub IsStopOf : MapRefusal → Stop → Type 0
+IsStopOf MemoryOfMap stop = stop ≡ Memory
+IsStopOf (TooMany edges) stop = stop ≡ Refused (Limited (Edges edges))
+IsStopOf (NotPermutation dart) stop = stop ≡ Refused (Map (Permutation dart))
+IsStopOf (NotConnected dart) stop = stop ≡ Refused (Map (Connected dart))
+IsStopOf (Genus euler) stop = stop ≡ Refused (Map (Euler euler))
+
+-- the map of the file, or why it has none
+abbrev pub IsMapOfFile : List ℕ → ℕ → Result RootedMap Stop → Type 0
+IsMapOfFile bytes limit (Ok map) = (residue : Option (List ℕ)) × AnswersFile bytes limit residue (Ok map)
+IsMapOfFile bytes limit (Err (Refused refusal)) = RefusesMapFile limit bytes refusal
+IsMapOfFile bytes limit (Err Memory) = ⊤
+IsMapOfFile bytes limit (Err Read) = ⊥
+IsMapOfFile bytes limit (Err Write) = ⊥

@@ -1,0 +1,38 @@
+ghost use Rattle.std.specs.Prelude.{◌≤◌, length, IfOk};
+ghost use Rattle.pm_io.specs.declared.TheConstants.{MAX_BYTES as limit};
+ghost use Rattle.pm_cli.specs.declared.words.Command.TheVariants.{Canon};
+ghost use Rattle.pm_cli.specs.Answering.{IsAnswerOf};
+ghost use Rattle.pm_cli.specs.MapCommands.{HasCanonicalText};
+
+use crate::map_file::map_of_file;
+use crate::refusal::Stop;
+use pm_canon::canon;
+use pm_limits::MAX_EDGES;
+use pm_map::RootedMap;
+use pm_mapfile::put_map;
+use std::alloc::{AllocError, Global};
+
+// The text of the canonical map that is the same.
+pub(crate) fn canonical_text(alloc: Global, map: &RootedMap) -> Result<Vec<u8>, AllocError>
+    ensures { IfOk result (λ text. HasCanonicalText map.now text.items) }
+{
+    let canonical = canon(alloc, map)?;
+    let mut text = Vec::new(alloc);
+    put_map(alloc, &canonical, &mut text)?;
+    Ok(text)
+}
+
+// `canon`: the text of the canonical map of the map in the file.
+pub(crate) fn canonize(alloc: Global, bytes: &[u8]) -> Result<Vec<u8>, Stop>
+    requires { length bytes.now ≤ limit }
+    ensures { IsAnswerOf Canon bytes.now result }
+{
+    let map = match map_of_file(alloc, bytes, MAX_EDGES) {
+        Ok(map) => map,
+        Err(stop) => return Err(stop),
+    };
+    match canonical_text(alloc, &map) {
+        Ok(text) => Ok(text),
+        Err(_) => Err(Stop::Memory),
+    }
+}
