@@ -7,7 +7,7 @@ use Rattle.std.proofs.lemmas.Grind.{get_or_default_zero}
 use Rattle.std.proofs.lemmas.List.{get_or_append_left}
 use Rattle.std.proofs.lemmas.List.Elements.{All-nil, All-cons}
 use Rattle.pm_perm.proofs.Permutations.{IsReached, pigeonhole}
-use Rattle.pm_perm.proofs.Inverse.{place_of, place_of-value}
+use Rattle.pm_perm.proofs.InverseLemmas.{place_of, place_of-value}
 use Rattle.pm_map.specs.Structure.{Structure, IsStructure, IsConnected}
 use Rattle.pm_map.specs.Rotation.{RotationSystem, structure_of, IsRootedMap}
 use Rattle.pm_map.specs.Meeting.{Stands, IsVertexFrom, darts_of, IsMeetingList}
