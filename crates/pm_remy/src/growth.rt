@@ -7,7 +7,7 @@ use crate::levels::by_level;
 use crate::links::{add_leaf, words_of};
 use crate::ungrowing::read_choices;
 use pm_limits::MAX_EDGES;
-use pm_perm::inverting::inverse;
+use pm_perm::inverse;
 use std::alloc::{AllocError, Global};
 
 /// From so many choices on the forks are numbered by level before they are walked through: their links no longer fit
