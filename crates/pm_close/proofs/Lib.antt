@@ -1,7 +1,9 @@
 pub mod ClosedMap
 pub mod ClosureLemmas
 pub mod DartLemmas
+pub mod Heads
 pub mod JoiningSteps
+pub mod KeptDegrees
 pub mod LevelSteps
 pub mod LowWords
 pub mod NodeVertices

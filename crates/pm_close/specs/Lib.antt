@@ -4,5 +4,6 @@ pub mod Joining
 pub mod Laws
 pub mod Level
 pub mod Levelling
+pub mod NodeDegrees
 pub mod Nodes
 pub mod Twinning

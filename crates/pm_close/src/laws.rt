@@ -1,5 +1,6 @@
 //! Laws of closures, for the crates above.
 ghost use Rattle.pm_close.specs.Laws.{HasOneClosure, ClosureIsRooted};
+ghost use Rattle.pm_close.specs.NodeDegrees.{DegreesAreKept};
 ghost use Rattle.pm_close.specs.Nodes.{NodesAreVertices};
 
 /// A law: a blossoming tree has one closure, and that of a balanced tree is a rooted map, so it is plane.
@@ -12,4 +13,10 @@ pub fn closure_is_unique()
 /// So the node's degree is that of the vertex, whatever leaf the tree hangs on.
 pub fn nodes_are_vertices()
     ensures { NodesAreVertices }
+{}
+
+/// A law: each vertex of the closure of a balanced tree has the degree of a node of the tree, and of each degree there are
+/// as many vertices as nodes.
+pub fn degrees_are_kept()
+    ensures { DegreesAreKept }
 {}

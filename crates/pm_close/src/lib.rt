@@ -8,7 +8,7 @@ mod levels;
 mod numbering;
 
 pub use closing::{CloseRefusal, Closed, close_tree};
-pub use laws::{closure_is_unique, nodes_are_vertices};
+pub use laws::{closure_is_unique, degrees_are_kept, nodes_are_vertices};
 pub use levels::Levels;
 
 #[cfg(test)]
