@@ -2,9 +2,11 @@
 #![tactic(auto)]
 
 mod balance;
+mod laws;
 mod pairing;
 
 pub use balance::{is_balanced, plant_bud};
+pub use laws::pairs_are_turned;
 pub use pairing::{Pairing, matching};
 
 #[cfg(test)]
