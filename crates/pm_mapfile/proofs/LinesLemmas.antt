@@ -9,7 +9,7 @@ use Rattle.pm_perm.specs.Permutation.{IsPermutationList}
 use Rattle.pm_map.specs.Meeting.{Stands}
 use Rattle.pm_map.specs.Missing.{IsLeastMissing}
 use Rattle.pm_map.proofs.StandsLemmas.{Stands-append_left, Stands-append_right, cases_Stands}
-use Rattle.pm_map.proofs.MarksLemmas.{standing_permutes}
+use Rattle.pm_perm.proofs.InverseLemmas.{standing_permutes}
 use Rattle.pm_mapfile.specs.MapFile.{MapLines, IsVertexLine, AreMapLines}
 use Rattle.pm_mapfile.specs.Vertices.{GoesAround, IsRotationOf}
 use Rattle.pm_mapfile.specs.Rotation.{turned, turned_lines, AreSizes, CarriesOn, TellsLines}
