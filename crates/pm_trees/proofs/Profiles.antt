@@ -1,19 +1,19 @@
 -- The profile of a tree: it is one, and there is no other.
-use Rattle.std.proofs.Common.{◌≡◌, ◌⊎◌, ℕ, zero, suc, ◌+◌, ◌-◌, ◌*◌, ◌/◌, ◌%◌, ◌≤◌, ◌<◌, ◌==◌, cond, eqb, ltb, Bool, true, false, inl, inr, List, [], ◌∷◌, ◌++◌, length, take, slice_index, get_or, refl, ap, ap₂, sym, ◌∙◌, subst, arith, take_all, length-append, add-one, eq-eqb, ne_eqb}
+use Rattle.std.proofs.Common.{◌≡◌, ℕ, zero, suc, ◌+◌, ◌-◌, ◌*◌, ◌≤◌, ◌<◌, cond, ltb, inl, inr, List, [], ◌∷◌, length, take, refl, ap, ap₂, sym, ◌∙◌, subst, arith, take_all, length-append, add-one, eq-eqb, ne_eqb}
 use Rattle.std.proofs.lemmas.Bool.{cases_eq, cases_lt, cases_order, lt-ltb, le-ltb}
 use Rattle.std.proofs.lemmas.List.{same_lists, get_or_default}
 use Rattle.std.proofs.lemmas.List.Sums.{sum_by_more}
 use Rattle.std.proofs.Math.Nat.{mul-add}
-use Rattle.pm_limits.specs.declared.TheConstants.{MAX_DEGREE, MAX_EDGES}
-use Rattle.pm_trees.specs.declared.letters.TheConstants.{LEAF, BUD, OPEN, CLOSE}
+use Rattle.pm_limits.specs.declared.TheConstants.{MAX_EDGES}
+use Rattle.pm_trees.specs.declared.letters.TheConstants.{BUD, OPEN, CLOSE}
 use Rattle.pm_trees.specs.Word.{contour}
 use Rattle.pm_trees.specs.Node.{own_letters}
 use Rattle.pm_trees.specs.Blossoming.{IsBlossoming}
-use Rattle.pm_trees.specs.Pairs.{IsRight, IsRightPair, IsProfile, degree_before, degree_sum, edges_of, pair_at}
+use Rattle.pm_trees.specs.Pairs.{IsProfile, degree_before, degree_sum, edges_of, pair_at}
 use Rattle.pm_trees.specs.Degrees.{AreCounts, AreListed, IsProfileOf, nodes_before, nodes_of}
-use Rattle.pm_trees.specs.Replanting.{IsAlike, ProfileIsKept, ProfileIsUnique}
+use Rattle.pm_trees.specs.Replanting.{ProfileIsKept, ProfileIsUnique}
 use Rattle.pm_trees.proofs.Tally.{tally}
-use Rattle.pm_trees.proofs.Own.{own_length, own_length_is, other_here}
+use Rattle.pm_trees.proofs.Own.{own_length, other_here}
 use Rattle.pm_trees.proofs.Dyck.{IsDyck}
 use Rattle.pm_trees.proofs.Dyck.IsDyck.{empty, letter, bracket}
 use Rattle.pm_trees.proofs.Weights.{value, value_is, inner, inner-nil, inner_open, inner_other, inner_of_bracket, own_bracket, weight, weight_is}

@@ -1,4 +1,4 @@
-use Rattle.std.proofs.Common.{arith, ◌+◌, ◌∙◌, refl, ap, sym, subst, List, ℕ, Vec, Global, get_or}
+use Rattle.std.proofs.Common.{arith, ◌+◌, ◌∙◌, ap, sym, subst, ℕ, Vec, Global, get_or}
 use Rattle.pm_trees.proofs.Listing.{AreListedBelow, listed_none, listed_push}
 use Rattle.pm_trees.proofs.degrees.listed.Goals as goal
 use Rattle.pm_trees.proofs.degrees.listed.Goals.{then-count-gt0+in_ok-push, else-count-gt0}
