@@ -90,9 +90,10 @@ fn numbers_of_64_bits_in_a_residue_line(rt: HostRuntime) -> Result<(), Fail> {
     let bytes = b"map 1 0\nv 0 1\nend\nresidue 0 18446744073709551615\n";
     let answer = read_map_file(rt.alloc(), bytes, 1);
     assert!(rt; answer.is_ok());
-    let Ok((_, residue)) = answer else {
+    let Ok((map, residue)) = answer else {
         return Ok(())
     };
+    assert_eq!(rt; map.edges(), 1);
     let residue = residue.ok_or("a residue line")?;
     assert_eq!(rt; residue.values(), [0, 18446744073709551615].as_slice());
     Ok(())
