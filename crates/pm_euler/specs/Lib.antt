@@ -1,0 +1,5 @@
+pub mod Bounds
+pub mod Closed
+pub mod Planted
+pub mod PlantedAnew
+pub mod Quartic

@@ -1,0 +1,2 @@
+//! Classes of maps as samplers: a list of bounded choices becomes a map of the class and a residue.
+#![tactic(auto)]
