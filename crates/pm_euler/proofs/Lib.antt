@@ -1,0 +1,5 @@
+pub mod PlantingTrees
+pub mod PlantingWords
+pub mod SidePatterns
+pub mod SideRows
+pub mod SideTexts

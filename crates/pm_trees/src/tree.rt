@@ -53,6 +53,14 @@ impl Tree {
     ghost use Rattle.pm_trees.specs.Blossoming.{IsBlossoming, edges, nodes, leaves};
     ghost use Rattle.pm_trees.specs.declared.letters.TheConstants.{BUD};
 
+    /// The tree with this word, where it is the word of a blossoming tree.
+    pub fn of_word(letters: Vec<u8>) -> Tree
+        requires { IsBlossoming letters.items }
+        ensures { result ≡ letters.items }
+    {
+        Tree { letters }
+    }
+
     /// The letters of the word, in order; the k-th, from 1, stands at place k. With the plant there are two more leaves
     /// than buds.
     #[tactic(auto, using(crate::proofs::Balance::two_more_leaves))]
