@@ -1,3 +1,4 @@
+pub mod PlantingSteps
 pub mod PlantingTrees
 pub mod PlantingWords
 pub mod SidePatterns

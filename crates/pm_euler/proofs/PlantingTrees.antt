@@ -2,7 +2,7 @@
 use Rattle.std.proofs.Common.{◌≡◌, ℕ, zero, suc, ◌+◌, ◌-◌, ◌*◌, ◌%◌, ◌<◌, ◌≤◌, ◌==◌, cond, inl, inr, List, [], ◌∷◌, length, drop, slice_index, refl, ap, sym, ◌∙◌, subst, arith, ne_eqb}
 use Rattle.std.proofs.lemmas.Bool.{cases_eq}
 use Rattle.pm_limits.specs.declared.TheConstants.{MAX_EDGES}
-use Rattle.pm_trees.specs.declared.letters.TheConstants.{LEAF, BUD, OPEN, CLOSE}
+use Rattle.pm_trees.specs.declared.letters.TheConstants.{LEAF, BUD, OPEN}
 use Rattle.pm_trees.specs.Word.{contour}
 use Rattle.pm_trees.specs.Node.{IsNode, own_letters, degree, buds}
 use Rattle.pm_trees.specs.Blossoming.{IsBlossoming, nodes}
@@ -10,12 +10,12 @@ use Rattle.pm_trees.specs.Blossoming.{leaves as tree_leaves}
 use Rattle.pm_trees.specs.Degrees.{nodes_of}
 use Rattle.pm_trees.proofs.Tally.{tally, tally_is, tally_yes}
 use Rattle.pm_trees.proofs.Dyck.{matched_from_dyck}
-use Rattle.pm_trees.proofs.Weights.{value, value_is, inner, inner-nil, inner_open, inner_other, weight, weight_is}
+use Rattle.pm_trees.proofs.Weights.{value, value_is, inner, inner_open, inner_other, weight}
 use Rattle.pm_trees.proofs.Rings.{contour_weight, of_degree, of_degree_is, nodes_weight}
 use Rattle.pm_remy.specs.Tree.{Tree, leaves}
 use Rattle.pm_euler.specs.Planted.{IsPlanted}
-use Rattle.pm_euler.proofs.SideRows.{IsRow, times, times-suc, times_none, times_one, row_value, row_inner}
-use Rattle.pm_euler.proofs.SideTexts.{IsRootRow, root_row, side_leaves}
+use Rattle.pm_euler.proofs.SideRows.{times, times-suc, times_none, times_one, row_value, row_inner}
+use Rattle.pm_euler.proofs.SideTexts.{root_row, side_leaves}
 
 pub planted_some : (tree : Tree) (ranks word : List ℕ) → IsPlanted tree ranks word → 0 < length ranks
 planted_some tree ranks word h = let r = root_row tree ranks word h in omega (arith, r.counted)

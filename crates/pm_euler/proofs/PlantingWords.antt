@@ -1,14 +1,14 @@
 -- A binary tree with as many bud patterns as forks has one word.
-use Rattle.std.proofs.Common.{◌≡◌, ℕ, zero, suc, ◌+◌, ◌-◌, ◌*◌, ◌<◌, ◌≤◌, List, [], ◌∷◌, ◌++◌, length, take, drop, All, refl, ap, ap₂, sym, ◌∙◌, subst, arith, length-append, length-take, length-drop, take-append-drop}
+use Rattle.std.proofs.Common.{◌≡◌, ℕ, suc, ◌-◌, ◌<◌, List, [], ◌∷◌, ◌++◌, length, take, drop, All, refl, subst, arith, length-append, length-take, length-drop, take-append-drop}
 use Rattle.std.proofs.lemmas.List.Elements.{All-head, All-tail, All-take, All-drop}
-use Rattle.pm_trees.specs.declared.letters.TheConstants.{LEAF, BUD, OPEN, CLOSE}
-use Rattle.pm_trees.specs.BudPattern.{HasRank, PatternsAreRanked}
+use Rattle.pm_trees.specs.declared.letters.TheConstants.{LEAF, OPEN, CLOSE}
+use Rattle.pm_trees.specs.BudPattern.{HasRank}
 use Rattle.pm_trees.specs.Binomial.{choose}
 use Rattle.pm_trees.proofs.Ranked.{patterns_ranked}
 use Rattle.pm_remy.specs.Tree.{Tree, leaf, fork, labels_of, leaves}
 use Rattle.pm_euler.specs.Planted.{filled, IsSide, IsPlanted}
 use Rattle.pm_euler.specs.Planted.IsSide.{of_leaf, of_fork}
-use Rattle.pm_euler.proofs.SideTexts.{side_leaves, IsSamePush, same_push}
+use Rattle.pm_euler.proofs.SideTexts.{side_leaves, same_push}
 
 -- each tree has a leaf
 pub some_leaf : (tree : Tree) → 0 < leaves tree

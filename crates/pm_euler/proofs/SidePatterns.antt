@@ -1,10 +1,9 @@
 -- The three bud patterns of a node of degree 4, and what they are with their two slots filled.
-use Rattle.std.proofs.Common.{◌≡◌, ℕ, suc, ◌⊎◌, inl, inr, List, [], ◌∷◌, ◌++◌, length, All, refl, ap, sym, ◌∙◌, arith}
+use Rattle.std.proofs.Common.{◌≡◌, ℕ, ◌⊎◌, inl, inr, List, [], ◌∷◌, arith}
 use Rattle.pm_trees.specs.declared.letters.TheConstants.{BUD}
 use Rattle.pm_trees.specs.declared.patterns.TheConstants.{SLOT}
 use Rattle.pm_trees.specs.BudPattern.{IsPattern}
 use Rattle.pm_trees.proofs.Tally.{tally, tally_is, tally-nil, tally_yes, tally_no}
-use Rattle.pm_euler.specs.Planted.{filled}
 
 -- the bud stands first, second or third
 pub data IsThree (pattern : List ℕ) : Type 0 where

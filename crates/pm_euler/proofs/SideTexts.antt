@@ -1,9 +1,8 @@
 -- The text of a side is a row of one letter: a leaf, or a node in its brackets.
-use Rattle.std.proofs.Common.{◌≡◌, ℕ, zero, suc, ◌+◌, List, [], ◌∷◌, ◌++◌, length, refl, ap, sym, ◌∙◌, subst, arith, length-append}
+use Rattle.std.proofs.Common.{◌≡◌, ℕ, suc, ◌+◌, List, [], ◌∷◌, ◌++◌, length, refl, ap, sym, subst, arith, length-append}
 use Rattle.pm_trees.specs.declared.letters.TheConstants.{LEAF, BUD, OPEN, CLOSE}
-use Rattle.pm_trees.specs.declared.patterns.TheConstants.{SLOT}
 use Rattle.pm_trees.specs.BudPattern.{HasRank}
-use Rattle.pm_remy.specs.Tree.{Tree, leaf, fork, labels_of, leaves}
+use Rattle.pm_remy.specs.Tree.{Tree, fork, labels_of, leaves}
 use Rattle.pm_euler.specs.Planted.{filled, IsSide, IsPlanted}
 use Rattle.pm_euler.specs.Planted.IsSide.{of_leaf, of_fork}
 use Rattle.pm_euler.proofs.SidePatterns.{IsThree, pattern_cases}
@@ -54,7 +53,8 @@ pub record IsSamePush (xs ys : List ℕ) (x y : ℕ) : Type 0 where
   pub lists : xs ≡ ys
   pub last : x ≡ y
 
-no_push : (xs : List ℕ) (y : ℕ) → [] ≡ xs ++ y ∷ [] → ⊥
+-- a list with a letter behind isn't empty
+pub no_push : (xs : List ℕ) (y : ℕ) → [] ≡ xs ++ y ∷ [] → ⊥
 no_push [] y e = cc
 no_push (x ∷ xs) y e = cc
 
