@@ -3,3 +3,4 @@ pub mod Closed
 pub mod Planted
 pub mod PlantedAnew
 pub mod Quartic
+pub mod Sampling

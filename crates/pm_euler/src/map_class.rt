@@ -1,0 +1,82 @@
+//! Classes of maps as samplers.
+ghost use Rattle.std.specs.Prelude.{◌≡◌, ◌↔◌, ℕ, List, Result, IfOk, IsTrue};
+ghost use Rattle.pm_map.specs.Rotation.{RotationSystem};
+ghost use Rattle.pm_map.specs.declared.class_refusal.ClassRefusal.{ClassRefusal};
+ghost use Rattle.pm_euler.specs.Sampling.{IsSampling, IsSizeWhereAnswered, HasOneAnswer, HasOneSample};
+
+use crate::sample::{Sample, SampleRefusal};
+use pm_lists::Bounds;
+use pm_map::{ClassRefusal, RootedMap};
+use std::alloc::{AllocError, Global};
+
+/// A class of rooted maps that can be sampled: for each of its admissible sizes a list of bounded choices becomes a map
+/// of the class and that size, and a residue, which is a list of bounded numbers too.
+pub trait MapClass {
+    /// How a map of the class is measured.
+    type Size;
+
+    // The admissible sizes.
+    ghost is_size: { Self.Size → Type 0 };
+
+    // The bounds of the choices of a size.
+    ghost choice_limits: { Self.Size → List ℕ };
+
+    // The bounds of the residues of a size.
+    ghost residue_limits: { Self.Size → List ℕ };
+
+    // The map is in the class and has the size.
+    ghost has: { Self.Size → RotationSystem → Type 0 };
+
+    // What a map is answered that should be in the class: its size, or the first rule that it breaks.
+    ghost answers: { RotationSystem → Result Self.Size ClassRefusal → Type 0 };
+
+    // These choices of a size give this map and this residue.
+    ghost samples: { Self.Size → List ℕ → RotationSystem → List ℕ → Type 0 };
+
+    /// Whether the size is admissible.
+    fn admissible(size: &Self::Size) -> bool
+        ensures { IsTrue result ↔ is_size size.now };
+
+    /// The bounds of the choices of an admissible size.
+    ///
+    /// # Errors
+    ///
+    /// `AllocError` where memory runs out.
+    fn choice_bounds(alloc: Global, size: &Self::Size) -> Result<Bounds, AllocError>
+        requires { is_size size.now }
+        ensures { IfOk result (λ bounds. bounds ≡ choice_limits size.now) };
+
+    /// The bounds of the residues of an admissible size.
+    ///
+    /// # Errors
+    ///
+    /// `AllocError` where memory runs out.
+    fn residue_bounds(alloc: Global, size: &Self::Size) -> Result<Bounds, AllocError>
+        requires { is_size size.now }
+        ensures { IfOk result (λ bounds. bounds ≡ residue_limits size.now) };
+
+    /// The size of a map of the class. It is admissible.
+    ///
+    /// # Errors
+    ///
+    /// The first of the class's rules that the map breaks, or `Memory`, which may come at any map.
+    fn size_of(alloc: Global, map: &RootedMap) -> Result<Self::Size, ClassRefusal>
+        ensures { answers map.now result };
+
+    /// The map and the residue that the choices give, for an admissible size.
+    ///
+    /// # Errors
+    ///
+    /// `List` exactly where the choices aren't valid for the choice bounds, or `Memory`, which may come at any list.
+    fn sample(alloc: Global, size: &Self::Size, choices: &[u64]) -> Result<Sample, SampleRefusal>
+        requires { is_size size.now }
+        ensures { IsSampling (choice_limits size.now) (residue_limits size.now) (has size.now) (samples size.now choices.now) choices.now result };
+
+    /// The laws of the class, to call upon; nothing is computed. A map is answered a size exactly where it is in the
+    /// class with that size, which is admissible then; it has one answer, but for want of memory. The choices of a size
+    /// give one map and one residue.
+    fn is_sampled_once()
+        ensures sized { IsSizeWhereAnswered is_size has answers }
+        ensures one_answer { HasOneAnswer answers }
+        ensures one_sample { (size : Self.Size) → is_size size → HasOneSample (samples size) };
+}

@@ -1,0 +1,34 @@
+//! What sampling answers.
+ghost use Rattle.std.specs.Prelude.{◌≡◌};
+
+use pm_lists::{ListRefusal, NumList};
+use pm_map::RootedMap;
+use std::alloc::AllocError;
+
+/// A sampled map and the rest of its choices.
+#[derive(Drop)]
+pub struct Sample {
+    /// The map, in its canonical numbering.
+    pub map: RootedMap,
+    /// What is left of the choices: a list that is valid for the class's residue bounds.
+    pub residue: NumList,
+}
+
+/// Why a list of choices gave no map.
+#[derive(Clone, Copy, Debug, PartialEq, Eq)]
+pub enum SampleRefusal {
+    /// There is no memory left. It may come at any list.
+    Memory,
+    /// The choices aren't valid for the class's choice bounds.
+    List(ListRefusal),
+}
+
+impl From<AllocError> for SampleRefusal {
+    ghost use Rattle.pm_euler.specs.declared.sample.SampleRefusal.TheVariants.{Memory};
+
+    ghost from_gives = { λ _ refusal. refusal ≡ Memory };
+
+    fn from(_error: AllocError) -> SampleRefusal {
+        SampleRefusal::Memory
+    }
+}
