@@ -1,6 +1,14 @@
+pub mod BoundLemmas
+pub mod CarriedSizes
+pub mod ClosedMaps
+pub mod DegreeTotals
+pub mod FreeLeaves
+pub mod OneSample
 pub mod PlantingSteps
 pub mod PlantingTrees
 pub mod PlantingWords
+pub mod QuarticMaps
+pub mod QuarticSamples
 pub mod SidePatterns
 pub mod SideRows
 pub mod SideTexts

@@ -1,11 +1,16 @@
 //! Classes of maps as samplers: a list of bounded choices becomes a map of the class and a residue.
 #![tactic(auto)]
 
+mod anew;
+mod bounds;
+mod closing;
 mod map_class;
 mod planting;
+mod quartic;
 mod sample;
 
 pub use map_class::MapClass;
+pub use quartic::Quartic;
 pub use sample::{Sample, SampleRefusal};
 
 #[cfg(test)]

@@ -1,0 +1,107 @@
+-- Planting a tree anew at a free leaf.
+use Rattle.std.proofs.Common.{◌≡◌, ℕ, suc, ◌+◌, ◌-◌, ◌%◌, ◌<◌, ◌≤◌, List, ◌∷◌, length, refl, sym, ◌∙◌, ap, subst, inl, inr, arith}
+use Rattle.std.specs.Prelude.{take, slice_index}
+use Rattle.pm_trees.specs.declared.letters.TheConstants.{LEAF}
+use Rattle.pm_trees.specs.Word.{contour, count}
+use Rattle.pm_trees.specs.Blossoming.{IsBlossoming, leaves}
+use Rattle.pm_trees.specs.Leaves.{IsLeafAt}
+use Rattle.pm_trees.specs.Replanted.{IsReplanted, place_from}
+use Rattle.pm_trees.specs.Replanting.{leaf_after}
+use Rattle.pm_trees.proofs.Tally.{tally_is, tally_yes}
+use Rattle.pm_trees.proofs.RingPlaces.{steps_to, steps_lead, steps_under}
+use Rattle.pm_trees.proofs.LeafTurns.{one_leaf, leaf_within}
+use Rattle.pm_trees.proofs.LeafCounts.{plant_is_first}
+use Rattle.pm_trees.proofs.Replants.{leaves_turned}
+use Rattle.pm_match.specs.Pair.{IsFree, IsBalanced}
+use Rattle.pm_match.specs.Pairing.{Pairs, IsPairing}
+use Rattle.pm_match.proofs.Counts.{leaf_within as leaf_inside}
+use Rattle.pm_match.proofs.PairTurns.{free_leaf_balances}
+use Rattle.pm_euler.specs.PlantedAnew.{IsFreeLeaf, IsPlantedAnew, first, second}
+
+-- the two free leaves of a pairing, by their numbers
+pub first_is_free : (places : List ℕ) (found : Pairs) → IsPairing places found → IsFreeLeaf places 0 found.first_free
+first_is_free places found pairing =
+    first found.first_free pairing.first (λ other is. elim (pairing.no_third other is) [ inl e ↦ omega (arith, e) | inr e ↦ (let order = pairing.in_order in omega (arith, e)) ])
+
+pub second_is_free : (places : List ℕ) (found : Pairs) → IsPairing places found → IsFreeLeaf places 1 found.second_free
+second_is_free places found pairing = second found.second_free found.first_free pairing.second pairing.first pairing.in_order
+
+pub free_leaf_is_free : (places : List ℕ) (free place : ℕ) → IsFreeLeaf places free place → IsFree places place
+free_leaf_is_free places _ place (first _ is least) = is
+free_leaf_is_free places _ place (second _ other is that after) = is
+
+-- a tree that is planted at a free leaf is balanced
+pub anew_balanced : (word : List ℕ) (free leaf place : ℕ) (turned : List ℕ) → IsBlossoming word → IsFreeLeaf (contour word) free place → IsLeafAt (contour word) leaf place
+    → IsReplanted word leaf turned → IsBalanced (contour turned)
+anew_balanced word free leaf place turned tree is numbered r =
+    (free_leaf_balances word leaf turned tree r).1
+    (subst (IsFree (contour word)) (one_leaf (contour word) leaf place r.start numbered r.is_start) (free_leaf_is_free (contour word) free place is))
+
+-- and its old plant has the number that planting gives to leaf 0
+pub anew_from : (word : List ℕ) (free leaf place : ℕ) (turned : List ℕ) → IsBlossoming word → IsFreeLeaf (contour word) free place → IsLeafAt (contour word) leaf place
+    → IsReplanted word leaf turned → IsPlantedAnew word free turned (leaf_after word leaf 0)
+anew_from word free leaf place turned tree is numbered r =
+    let start_in : r.start < length (contour word) = leaf_within (contour word) leaf r.start r.is_start in
+    let now_in : steps_to (length (contour word)) r.start 0 < length (contour word) = steps_under (length (contour word)) r.start 0 (omega arith) in
+    let now_is : place_from (contour word) r.start (steps_to (length (contour word)) r.start 0) ≡ 0 = steps_lead (length (contour word)) r.start 0 (omega arith) (omega arith) in
+    record {
+      leaf = leaf;
+      place = place;
+      is_free = is;
+      numbered = numbered;
+      is_replanted = r;
+      now = steps_to (length (contour word)) r.start 0;
+      within = (let long = r.is_turned.as_long in omega arith);
+      is_old_plant = now_is;
+      is_old_number = leaves_turned word leaf turned tree r 0 (steps_to (length (contour word)) r.start 0) now_in
+          (subst (IsLeafAt (contour word) 0) (sym now_is) (plant_is_first word 0 refl));
+    }
+
+-- of the pair of free leaves the one that is chosen
+pub data IsChosen (pair : ℕ × ℕ) (free place : ℕ) : Type 0 where
+  at_first : free ≡ 0 → place ≡ pair.0 → IsChosen pair free place
+  at_second : (free ≡ 0 → ⊥) → place ≡ pair.1 → IsChosen pair free place
+
+pub chosen_leaf : (places : List ℕ) (found : Pairs) (pair : ℕ × ℕ) (free place : ℕ) → IsPairing places found → pair ≡ (found.first_free, found.second_free) → free < 2 → IsChosen pair free place → IsFreeLeaf places free place
+chosen_leaf places found pair free place pairing e few (at_first zero is) =
+    subst (λ (b : ℕ). IsFreeLeaf places b place) (sym zero) (subst (IsFreeLeaf places 0) (sym (is ∙ ap (λ (p : ℕ × ℕ). p.0) e)) (first_is_free places found pairing))
+chosen_leaf places found pair free place pairing e few (at_second some is) =
+    let one : 1 ≡ free = (let low : (free ≡ 0 → ⊥) = some in omega arith) in
+    subst (λ (b : ℕ). IsFreeLeaf places b place) one (subst (IsFreeLeaf places 1) (sym (is ∙ ap (λ (p : ℕ × ℕ). p.1) e)) (second_is_free places found pairing))
+
+pub free_leaf_letter : (places : List ℕ) (free place : ℕ) → IsFreeLeaf places free place → slice_index places place ≡ LEAF
+free_leaf_letter places free place is = (free_leaf_is_free places free place is).leaf
+
+pub free_leaf_within : (places : List ℕ) (free place : ℕ) → IsFreeLeaf places free place → place < length places
+free_leaf_within places free place is = leaf_inside places place (free_leaf_letter places free place is)
+
+-- the free leaf has the number that is counted
+pub free_leaf_numbered : (places : List ℕ) (free place leaf : ℕ) → IsFreeLeaf places free place → leaf ≡ count LEAF (take place places) → IsLeafAt places leaf place
+free_leaf_numbered places free place leaf is e = record { here = free_leaf_letter places free place is; before = sym e }
+
+-- the leaves before a place behind the plant
+pub count_before : (letters : List ℕ) (place n : ℕ) → (place ≡ 0 → ⊥) → n ≡ count LEAF (take (place - 1) letters) → n + 1 ≡ count LEAF (take place (contour letters))
+count_before letters place n some e =
+    let next : suc (place - 1) ≡ place = omega arith in
+    let one : n + 1 ≡ suc n = omega arith in
+    one ∙ ap suc (e ∙ sym (tally_is LEAF (take (place - 1) letters))) ∙ sym (tally_yes LEAF LEAF (take (place - 1) letters) refl)
+    ∙ tally_is LEAF (LEAF ∷ take (place - 1) letters) ∙ ap (λ (k : ℕ). count LEAF (take k (contour letters))) next
+
+-- what planting anew owes, of the place that is chosen
+pub chosen_within : (word letters : List ℕ) (found : Pairs) (pair : ℕ × ℕ) (free place : ℕ) → IsPairing (contour word) found → pair ≡ (found.first_free, found.second_free) → letters ≡ word → free < 2
+    → IsChosen pair free place → place ≤ length letters
+chosen_within word letters found pair free place pairing e same few chosen =
+    let inside = free_leaf_within (contour word) free place (chosen_leaf (contour word) found pair free place pairing e few chosen) in
+    let long = ap length same in
+    omega arith
+
+pub chosen_numbered : (word letters : List ℕ) (found : Pairs) (pair : ℕ × ℕ) (free place leaf : ℕ) → IsPairing (contour word) found → pair ≡ (found.first_free, found.second_free) → letters ≡ word → free < 2
+    → IsChosen pair free place → leaf ≡ count LEAF (take place (contour letters)) → IsFreeLeaf (contour word) free place × IsLeafAt (contour word) leaf place
+chosen_numbered word letters found pair free place leaf pairing e same few chosen counted =
+    let is = chosen_leaf (contour word) found pair free place pairing e few chosen in
+    (is, free_leaf_numbered (contour word) free place leaf is (counted ∙ ap (λ (xs : List ℕ). count LEAF (take place (contour xs))) same))
+
+pub old_number : (word : List ℕ) (leaf a b : ℕ) → a ≡ leaves word → b ≡ leaves word → leaf_after word leaf 0 ≡ (a - leaf) % b
+old_number word leaf a b e f = plain (leaves word) a b leaf e f where
+  plain : (n a b leaf : ℕ) → a ≡ n → b ≡ n → (0 + (n - leaf)) % n ≡ (a - leaf) % b
+  plain n a b leaf e f = let zero : 0 + (n - leaf) ≡ n - leaf = omega arith in rw (e, f, zero) refl

@@ -1,0 +1,87 @@
+-- The choices of a size give one map and one residue.
+use Rattle.std.proofs.Common.{◌≡◌, ℕ, ◌*◌, ◌<◌, List, ◌∷◌, inl, inr, length, take, drop, refl, sym, ◌∙◌, ap, subst, arith}
+use Rattle.std.specs.Prelude.{slice_index}
+use Rattle.std.proofs.lemmas.Bool.{cases_eq}
+use Rattle.pm_trees.specs.declared.letters.TheConstants.{LEAF}
+use Rattle.pm_trees.specs.Word.{contour, count}
+use Rattle.pm_trees.specs.Blossoming.{IsBlossoming}
+use Rattle.pm_trees.specs.Leaves.{IsLeafAt}
+use Rattle.pm_trees.specs.Replanted.{IsReplanted}
+use Rattle.pm_trees.proofs.Balance.{two_more_leaves}
+use Rattle.pm_trees.proofs.RingPlaces.{steps_to, steps_are}
+use Rattle.pm_trees.proofs.LeafTurns.{one_leaf, leaf_within}
+use Rattle.pm_trees.proofs.Replants.{replanted_unique, replanted_alike}
+use Rattle.pm_match.specs.Pair.{IsFree, IsBalanced}
+use Rattle.pm_match.proofs.Paired.{at_most_two_free}
+use Rattle.pm_lehmer.specs.Lehmer.{code_of}
+use Rattle.pm_remy.specs.Tree.{labels_of}
+use Rattle.pm_remy.specs.Growth.{grown}
+use Rattle.pm_euler.specs.PlantedAnew.{IsFreeLeaf, IsPlantedAnew, first, second}
+use Rattle.pm_euler.specs.Closed.{IsCanonicalClosure}
+use Rattle.pm_euler.specs.Quartic.{IsQuarticSize, SamplesQuartic}
+use Rattle.pm_euler.specs.Sampling.{HasOneSample}
+use Rattle.pm_euler.proofs.BoundLemmas.{length-quartic_choices, ranks_long}
+use Rattle.pm_euler.proofs.FreeLeaves.{anew_balanced}
+use Rattle.pm_euler.proofs.PlantingTrees.{planted_blossoming}
+use Rattle.pm_euler.proofs.PlantingWords.{planted_unique}
+use Rattle.pm_euler.proofs.ClosedMaps.{one_canonical_closure}
+
+-- the free leaf of a number is one
+one_second : (word : List ℕ) (p q o r : ℕ) → IsBlossoming word → IsFree (contour word) p → IsFree (contour word) q → IsFree (contour word) o → IsFree (contour word) r → o < p → r < q → p ≡ q
+one_second word p q o r tree p_free q_free o_free r_free before after = elim (cases_eq p q) [
+  | inl same ↦ same
+  | inr apart ↦
+      let two = two_more_leaves word tree in
+      let q_is : q ≡ o = at_most_two_free word two p q o p_free q_free o_free apart (λ e. omega arith) in
+      let q_is_r : q ≡ r = at_most_two_free word two p q r p_free q_free r_free apart (λ e. omega arith) in
+      absurd (omega arith)
+]
+
+one_free_leaf : (word : List ℕ) (a b p q : ℕ) → IsBlossoming word → a ≡ b → IsFreeLeaf (contour word) a p → IsFreeLeaf (contour word) b q → p ≡ q
+one_free_leaf word _ _ p q tree e (first _ p_free p_least) (first _ q_free q_least) = let below = p_least q q_free in let above = q_least p p_free in omega arith
+one_free_leaf word _ _ p q tree e (first _ p_free p_least) (second _ r q_free r_free after) = absurd (omega arith)
+one_free_leaf word _ _ p q tree e (second _ o p_free o_free before) (first _ q_free q_least) = absurd (omega arith)
+one_free_leaf word _ _ p q tree e (second _ o p_free o_free before) (second _ r q_free r_free after) = one_second word p q o r tree p_free q_free o_free r_free before after
+
+pub anew_blossoms : (word : List ℕ) (free : ℕ) (turned : List ℕ) (old : ℕ) → IsBlossoming word → IsPlantedAnew word free turned old → IsBlossoming turned
+anew_blossoms word free turned old tree a = (replanted_alike word a.leaf turned tree a.is_replanted).blossoming
+
+pub anew_balances : (word : List ℕ) (free : ℕ) (turned : List ℕ) (old : ℕ) → IsBlossoming word → IsPlantedAnew word free turned old → IsBalanced (contour turned)
+anew_balances word free turned old tree a = anew_balanced word free a.leaf a.place turned tree a.is_free a.numbered a.is_replanted
+
+same_leaf : (word : List ℕ) (free : ℕ) (one other : List ℕ) (a b : ℕ) → IsBlossoming word → (x : IsPlantedAnew word free one a) → (y : IsPlantedAnew word free other b) → y.leaf ≡ x.leaf
+same_leaf word free one other a b tree x y =
+    let places : y.place ≡ x.place = one_free_leaf word free free y.place x.place tree refl y.is_free x.is_free in
+    sym y.numbered.before ∙ ap (λ (k : ℕ). count LEAF (take k (contour word))) places ∙ x.numbered.before
+
+-- a tree is planted anew in one way
+pub one_anew : (word : List ℕ) (free : ℕ) (one other : List ℕ) (a b : ℕ) → IsBlossoming word → IsPlantedAnew word free one a → IsPlantedAnew word free other b → (other ≡ one) × (b ≡ a)
+one_anew word free one other a b tree x y =
+    let leaves : y.leaf ≡ x.leaf = same_leaf word free one other a b tree x y in
+    let there : IsReplanted word x.leaf other = subst (λ (k : ℕ). IsReplanted word k other) leaves y.is_replanted in
+    let words : other ≡ one = replanted_unique word x.leaf other one tree there x.is_replanted in
+    let starts : y.is_replanted.start ≡ x.is_replanted.start =
+    one_leaf (contour word) x.leaf y.is_replanted.start x.is_replanted.start (subst (λ (k : ℕ). IsLeafAt (contour word) k y.is_replanted.start) leaves y.is_replanted.is_start) x.is_replanted.is_start in
+    let x_now : x.now ≡ steps_to (length (contour word)) x.is_replanted.start 0 = now_is word free one a x in
+    let y_now : y.now ≡ steps_to (length (contour word)) y.is_replanted.start 0 = now_is word free other b y in
+    let nows : y.now ≡ x.now = y_now ∙ ap (λ (s : ℕ). steps_to (length (contour word)) s 0) starts ∙ sym x_now in
+    (words, sym y.is_old_number.before ∙ ap (λ (k : ℕ). count LEAF (take k (contour other))) nows ∙ ap (λ (w : List ℕ). count LEAF (take x.now (contour w))) words ∙ x.is_old_number.before) where
+      now_is : (word : List ℕ) (free : ℕ) (turned : List ℕ) (old : ℕ) → (x : IsPlantedAnew word free turned old) → x.now ≡ steps_to (length (contour word)) x.is_replanted.start 0
+      now_is word free turned old x =
+          let long = x.is_replanted.is_turned.as_long in
+          let within = x.within in
+          let start_in = leaf_within (contour word) x.leaf x.is_replanted.start x.is_replanted.is_start in
+          sym (steps_are (length (contour word)) x.is_replanted.start x.now (omega arith) (omega arith)) ∙ ap (steps_to (length (contour word)) x.is_replanted.start) x.is_old_plant
+
+pub one_quartic_sample : (n : ℕ) → IsQuarticSize n → HasOneSample (SamplesQuartic n)
+one_quartic_sample n size choices map other residue rest x y =
+    let long : length (take n (drop n choices)) ≡ n = ranks_long n choices (x.valid.as_long ∙ length-quartic_choices n) in
+    let few = size.few in
+    let words : y.word ≡ x.word = planted_unique (grown (take n choices)) (take n (drop n choices)) y.word x.word y.is_planted x.is_planted in
+    let tree : IsBlossoming x.word = planted_blossoming (grown (take n choices)) (take n (drop n choices)) x.word x.is_planted (omega arith) in
+    let there : IsPlantedAnew x.word (slice_index choices (2 * n)) y.turned y.old_plant = subst (λ (w : List ℕ). IsPlantedAnew w (slice_index choices (2 * n)) y.turned y.old_plant) words y.is_anew in
+    let same = one_anew x.word (slice_index choices (2 * n)) x.turned y.turned x.old_plant y.old_plant tree x.is_anew there in (
+      one_canonical_closure x.turned map other (anew_blossoms x.word (slice_index choices (2 * n)) x.turned x.old_plant tree x.is_anew)
+          (anew_balances x.word (slice_index choices (2 * n)) x.turned x.old_plant tree x.is_anew) x.is_closed (subst (λ (w : List ℕ). IsCanonicalClosure w other) same.0 y.is_closed),
+      x.residue_is ∙ ap (λ (k : ℕ). k ∷ code_of (labels_of (grown (take n choices)))) (sym same.1) ∙ sym y.residue_is,
+    )

@@ -1,0 +1,80 @@
+-- What is sampled is a quartic map of the size, and the residue is valid.
+use Rattle.std.proofs.Common.{◌≡◌, ℕ, suc, ◌+◌, ◌*◌, ◌<◌, List, ◌∷◌, length, length-take, take, drop, sym, ◌∙◌, ap, subst, arith}
+use Rattle.std.specs.Prelude.{slice_index}
+use Rattle.pm_lists.specs.Valid.{IsValidList}
+use Rattle.pm_lehmer.specs.Lehmer.{code_of, IsArrangementCode}
+use Rattle.pm_remy.specs.Tree.{Tree, labels_of, leaves}
+use Rattle.pm_remy.specs.Growth.{grown}
+use Rattle.pm_remy.proofs.Grown.{counted-grown}
+use Rattle.pm_remy.proofs.Once.{counted-leaves}
+use Rattle.pm_trees.specs.Word.{contour}
+use Rattle.pm_trees.specs.Blossoming.{IsBlossoming}
+use Rattle.pm_trees.proofs.LeafTurns.{leaf_few}
+use Rattle.pm_trees.proofs.Replants.{replanted_alike}
+use Rattle.pm_map.specs.Rotation.{RotationSystem, structure_of}
+use Rattle.pm_map.specs.Classes.{IsQuartic}
+use Rattle.pm_euler.specs.Bounds.{quartic_choices, quartic_residues}
+use Rattle.pm_euler.specs.Planted.{IsPlanted}
+use Rattle.pm_euler.specs.PlantedAnew.{IsPlantedAnew}
+use Rattle.pm_euler.specs.Closed.{IsCanonicalClosure}
+use Rattle.pm_euler.specs.Quartic.{IsQuarticSize, SamplesQuartic}
+use Rattle.pm_euler.specs.Sampling.{IsSampled}
+use Rattle.pm_euler.proofs.BoundLemmas.{length-quartic_choices, growth_is_valid, ranks_long, length-code_of, residue_is_valid}
+use Rattle.pm_euler.proofs.PlantingTrees.{planted_blossoming, planted_no_other, planted_leaves, planted_length}
+use Rattle.pm_euler.proofs.ClosedMaps.{quartic_closure}
+use Rattle.pm_euler.proofs.OneSample.{anew_blossoms, anew_balances}
+
+-- the tree that the choices grow has a leaf more than the size
+pub grown_leaves : (n : ℕ) (choices : List ℕ) → IsValidList choices (quartic_choices n) → leaves (grown (take n choices)) ≡ suc n
+grown_leaves n choices valid =
+    let long : length choices ≡ 2 * n + 1 = valid.as_long ∙ length-quartic_choices n in
+    let few : length (take n choices) ≡ n = simp length-take (omega arith) in
+    counted-leaves (suc (length (take n choices))) (grown (take n choices)) (counted-grown (take n choices) (growth_is_valid n choices valid)) ∙ ap suc few
+
+-- the map of a sample is quartic
+sampled_class : (n : ℕ) (tree : Tree) (ranks word : List ℕ) (free : ℕ) (turned : List ℕ) (old_plant : ℕ) (map : RotationSystem) → IsQuarticSize n → length ranks ≡ n → IsPlanted tree ranks word
+    → IsPlantedAnew word free turned old_plant → IsCanonicalClosure turned map → IsQuartic (structure_of map) n
+sampled_class n tree ranks word free turned old_plant map size long is anew closed =
+    let few = size.few in
+    let blossoming : IsBlossoming word = planted_blossoming tree ranks word is (omega arith) in
+    let alike = replanted_alike word anew.leaf turned blossoming anew.is_replanted in
+    let letters = alike.letters in
+    let whole = planted_length tree ranks word is in
+    quartic_closure turned map n (anew_blossoms word free turned old_plant blossoming anew) (anew_balances word free turned old_plant blossoming anew)
+    (λ d other. alike.degrees d ∙ planted_no_other tree ranks word d is other) (omega arith) closed
+
+-- the old plant is one of the leaves
+sampled_old : (n : ℕ) (tree : Tree) (ranks word : List ℕ) (free : ℕ) (turned : List ℕ) (old_plant : ℕ) → IsQuarticSize n → length ranks ≡ n → IsPlanted tree ranks word
+    → IsPlantedAnew word free turned old_plant → old_plant < n + 2
+sampled_old n tree ranks word free turned old_plant size long is anew =
+    let few = size.few in
+    let blossoming : IsBlossoming word = planted_blossoming tree ranks word is (omega arith) in
+    let alike = replanted_alike word anew.leaf turned blossoming anew.is_replanted in
+    below (leaf_few (contour turned) old_plant anew.now anew.is_old_number) (alike.leaves_are ∙ planted_leaves tree ranks word is ∙ ap (λ (k : ℕ). k + 2) long) where
+      below : {count : ℕ} → old_plant < count → count ≡ n + 2 → old_plant < n + 2
+      below low e = subst (λ (k : ℕ). old_plant < k) e low
+
+pub quartic_sampled : (n : ℕ) (choices : List ℕ) (tree : Tree) (ranks word turned : List ℕ) (old_plant : ℕ) (map : RotationSystem) (residue : List ℕ) → IsQuarticSize n → IsValidList choices (quartic_choices n)
+    → tree ≡ grown (take n choices) → ranks ≡ take n (drop n choices) → IsPlanted tree ranks word → IsPlantedAnew word (slice_index choices (2 * n)) turned old_plant → IsCanonicalClosure turned map
+    → residue ≡ old_plant ∷ code_of (labels_of tree) → IsArrangementCode (code_of (labels_of tree))
+    → IsSampled (quartic_choices n) (quartic_residues n) (λ m. IsQuartic (structure_of m) n) (SamplesQuartic n choices) choices (record { map = map; residue = residue })
+quartic_sampled n choices tree ranks word turned old_plant map residue size valid grows ranked is anew closed residue_is is_code =
+    let long : length ranks ≡ n = ap length ranked ∙ ranks_long n choices (valid.as_long ∙ length-quartic_choices n) in
+    let labels : length (labels_of tree) ≡ n + 1 = (let e : suc n ≡ n + 1 = omega arith in ap leaves grows ∙ grown_leaves n choices valid ∙ e) in
+    record {
+      valid = valid;
+      given = record {
+        valid = valid;
+        word = word;
+        is_planted = subst (λ (t : Tree). IsPlanted t (take n (drop n choices)) word) grows (subst (λ (r : List ℕ). IsPlanted tree r word) ranked is);
+        turned = turned;
+        old_plant = old_plant;
+        is_anew = anew;
+        is_closed = closed;
+        residue_is = residue_is ∙ ap (λ (t : Tree). old_plant ∷ code_of (labels_of t)) grows;
+      };
+      canonical = closed.is_canonical.is_canonical;
+      in_class = sampled_class n tree ranks word (slice_index choices (2 * n)) turned old_plant map size long is anew closed;
+      valid_residue = subst (λ (r : List ℕ). IsValidList r (quartic_residues n)) (sym residue_is)
+          (residue_is_valid n old_plant (code_of (labels_of tree)) (sampled_old n tree ranks word (slice_index choices (2 * n)) turned old_plant size long is anew) (length-code_of (labels_of tree) ∙ labels) is_code);
+    }

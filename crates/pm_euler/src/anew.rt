@@ -1,0 +1,57 @@
+//! A tree planted anew at one of its two free leaves.
+ghost use Rattle.std.specs.Prelude.{◌≡◌, ◌<◌, ◌≤◌, ◌^◌, length, take, IfOk};
+ghost use Rattle.pm_trees.specs.declared.letters.TheConstants.{LEAF as leaf};
+ghost use Rattle.pm_trees.specs.Replanting.{IsAlike};
+ghost use Rattle.pm_trees.specs.Word.{contour, count};
+ghost use Rattle.pm_match.specs.Pair.{IsBalanced};
+ghost use Rattle.pm_euler.specs.PlantedAnew.{IsPlantedAnew};
+
+use pm_match::matching;
+use pm_trees::{LEAF, Tree, replant};
+use std::alloc::{AllocError, Global};
+
+/// A tree planted at a free leaf, and the number in it of the leaf that was the plant before.
+#[derive(Drop)]
+pub(crate) struct PlantedAnew {
+    pub(crate) tree: Tree,
+    pub(crate) old_plant: u32,
+}
+
+/// The tree planted at its free leaf of this number: the first one, counted along the contour from the plant on, is 0, and
+/// the second one is 1.
+pub(crate) fn plant_anew(alloc: Global, tree: &Tree, free: u64) -> Result<PlantedAnew, AllocError>
+    requires { free < 2 }
+    ensures anew { IfOk result (λ anew. IsPlantedAnew tree.now free anew.tree anew.old_plant) }
+    ensures balanced { IfOk result (λ anew. IsBalanced (contour anew.tree)) }
+    ensures alike { IfOk result (λ anew. IsAlike tree.now anew.tree) }
+{
+    let pairing = matching(alloc, tree)?;
+    let (first, second) = pairing.free();
+    let place = if free == 0 { first } else { second };
+    let leaf = leaves_before(tree.letters(), place);
+    let replanted = replant(alloc, tree, leaf)?;
+    Ok(PlantedAnew {
+        tree: replanted,
+        old_plant: (tree.leaves() - leaf) % tree.leaves(),
+    })
+}
+
+/// How many leaves stand before the place along the contour.
+fn leaves_before(letters: &[u8], place: u32) -> u32
+    requires short { length letters.now < 2 ^ 31 }
+    requires within { place ≤ length letters.now }
+    ensures { result ≡ count leaf (take place (contour letters.now)) }
+{
+    if place == 0 {
+        return 0;
+    }
+    leaves_in(&letters[..place as usize - 1]) + 1
+}
+
+/// How many of the letters are leaves.
+fn leaves_in(letters: &[u8]) -> u32
+    requires { length letters.now < 2 ^ 31 }
+    ensures { result ≡ count leaf letters.now }
+{
+    letters.iter().filter(|letter| **letter == LEAF).count() as u32
+}

@@ -1,0 +1,113 @@
+//! Quartic maps: each vertex has degree 4.
+ghost use Rattle.std.specs.Prelude.{◌≡◌, ◌↔◌, ◌∷◌, IfOk, IsTrue};
+ghost use Rattle.pm_lehmer.specs.Lehmer.{code_of, IsArrangementCode};
+ghost use Rattle.pm_lists.specs.Valid.{IsValidList};
+ghost use Rattle.pm_map.specs.ClassRules.{IsQuarticAnswer};
+ghost use Rattle.pm_map.specs.Classes.{IsQuartic};
+ghost use Rattle.pm_map.specs.Rotation.{structure_of};
+ghost use Rattle.pm_remy.specs.Tree.{labels_of};
+ghost use Rattle.pm_euler.specs.Bounds.{quartic_choices, quartic_residues};
+ghost use Rattle.pm_euler.specs.Quartic.{IsQuarticSize, SamplesQuartic};
+ghost use Rattle.pm_euler.specs.Sampling.{IsSampled};
+
+use crate::anew::plant_anew;
+use crate::bounds::{limits_of_growth, limits_with_code};
+use crate::closing::canonical_closure;
+use crate::map_class::MapClass;
+use crate::planting::plant;
+use crate::sample::{Sample, SampleRefusal};
+use pm_lehmer::code;
+use pm_limits::MAX_EDGES;
+use pm_lists::{Bounds, NumList, check_list};
+use pm_map::{ClassRefusal, Degrees, RootedMap};
+use pm_remy::{LabelTree, grow, labels};
+use std::alloc::{AllocError, Global};
+
+/// The quartic maps with `n` vertices, for `n` from 1 to half of [`MAX_EDGES`]: plane maps in which each vertex has degree
+/// 4 (Schaeffer 1997). Choices are those of a growth of `n` forks (Rémy 1985), then the rank of a bud pattern for each
+/// fork in preorder, and then which of the two free leaves becomes the plant. The residue is the number of the old plant
+/// among the leaves, and the arrangement code of the labels of the growth.
+pub struct Quartic;
+
+impl MapClass for Quartic {
+    type Size = u32;
+
+    ghost is_size = { IsQuarticSize };
+
+    ghost choice_limits = { quartic_choices };
+
+    ghost residue_limits = { quartic_residues };
+
+    ghost has = { λ n m. IsQuartic (structure_of m) n };
+
+    ghost answers = { IsQuarticAnswer };
+
+    ghost samples = { SamplesQuartic };
+
+    fn admissible(size: &u32) -> bool {
+        0 < *size && *size <= MAX_EDGES / 2
+    }
+
+    fn choice_bounds(alloc: Global, size: &u32) -> Result<Bounds, AllocError> {
+        let mut limits = limits_of_growth(alloc, *size)?;
+        let patterns = vec![in alloc; 3u64; *size as usize]?;
+        limits.extend_from_slice(&patterns)?;
+        limits.push(2)?;
+        Ok(Bounds::of(limits))
+    }
+
+    fn residue_bounds(alloc: Global, size: &u32) -> Result<Bounds, AllocError> {
+        let limits = limits_with_code(alloc, u64::from(*size) + 2, *size + 1)?;
+        Ok(Bounds::of(limits))
+    }
+
+    fn size_of(alloc: Global, map: &RootedMap) -> Result<u32, ClassRefusal> {
+        if map.edges() == 0 {
+            return Err(ClassRefusal::Empty);
+        }
+        let four = Degrees::Exactly { degree: 4 };
+        if let Some(dart) = map.vertex_of_other_degree(alloc, four)? {
+            return Err(ClassRefusal::Vertex { dart });
+        }
+        Ok(map.edges() / 2)
+    }
+
+    fn sample(alloc: Global, size: &u32, choices: &[u64]) -> Result<Sample, SampleRefusal> {
+        let bounds = Quartic::choice_bounds(alloc, size)?;
+        if let Err(refusal) = check_list(choices, &bounds) {
+            return Err(SampleRefusal::List(refusal));
+        }
+        let sample = sample_of_valid(alloc, *size, choices)?;
+        Ok(sample)
+    }
+
+    fn is_sampled_once() {}
+}
+
+/// The map and the residue of valid choices.
+fn sample_of_valid(alloc: Global, size: u32, choices: &[u64]) -> Result<Sample, AllocError>
+    requires size { IsQuarticSize size }
+    requires valid { IsValidList choices.now (quartic_choices size) }
+    ensures { IfOk result (λ sample. IsSampled (quartic_choices size) (quartic_residues size) (λ m. IsQuartic (structure_of m) size) (SamplesQuartic size choices.now) choices.now sample) }
+{
+    let forks = size as usize;
+    let tree = grow(alloc, &choices[..forks])?;
+    let blossoming = plant(alloc, &tree, &choices[forks..2 * forks])?;
+    let anew = plant_anew(alloc, &blossoming, choices[2 * forks])?;
+    let map = canonical_closure(alloc, &anew.tree)?;
+    let residue = residue_of(alloc, anew.old_plant, &tree)?;
+    Ok(Sample { map, residue })
+}
+
+/// The number of the old plant, and the arrangement code of the labels from left to right.
+fn residue_of(alloc: Global, old_plant: u32, tree: &LabelTree) -> Result<NumList, AllocError>
+    ensures residue { IfOk result (λ residue. residue ≡ old_plant ∷ code_of (labels_of tree.now)) }
+    ensures is_code { IfOk result (λ _. IsArrangementCode (code_of (labels_of tree.now))) }
+{
+    let leaf_labels = labels(alloc, tree)?;
+    let label_code = code(alloc, &leaf_labels)?;
+    let mut residue = Vec::new(alloc);
+    residue.push(u64::from(old_plant))?;
+    residue.extend_from_slice(&label_code)?;
+    Ok(NumList::of(residue))
+}
