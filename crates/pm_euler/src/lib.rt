@@ -15,3 +15,5 @@ pub use sample::{Sample, SampleRefusal};
 
 #[cfg(test)]
 mod planting_tests;
+#[cfg(test)]
+mod tests;

@@ -77,8 +77,7 @@ impl MapClass for Quartic {
         if let Err(refusal) = check_list(choices, &bounds) {
             return Err(SampleRefusal::List(refusal));
         }
-        let sample = sample_of_valid(alloc, *size, choices)?;
-        Ok(sample)
+        Ok(sample_of_valid(alloc, *size, choices)?)
     }
 
     fn is_sampled_once() {}
