@@ -58,6 +58,7 @@ fn planted_letters(alloc: Global, tree: &LabelTree, ranks: &[u64]) -> Result<Vec
 }
 
 /// Puts the bud pattern of this rank of a node of degree 4 before what lies ahead.
+#[tactic(auto, unfolding(pm_trees::specs::Binomial::choose))]
 fn add_pattern(rank: u64, ahead: &mut Vec<u8>) -> Result<(), AllocError>
     requires { rank < 3 }
     ensures pattern { OnOk result ((word : List ℕ) × HasRank 2 word rank × (ahead.new.items ≡ ahead.old.items ++ reverse word)) }
