@@ -57,17 +57,15 @@ anew_from word free leaf place turned tree is numbered r =
           (subst (IsLeafAt (contour word) 0) (sym now_is) (plant_is_first word 0 refl));
     }
 
--- of the pair of free leaves the one that is chosen
-pub data IsChosen (pair : ℕ × ℕ) (free place : ℕ) : Type 0 where
-  at_first : free ≡ 0 → place ≡ pair.0 → IsChosen pair free place
-  at_second : (free ≡ 0 → ⊥) → place ≡ pair.1 → IsChosen pair free place
+-- as the list of pairs gives them
+pub first_chosen : (places : List ℕ) (found : Pairs) (pair : ℕ × ℕ) (free : ℕ) → IsPairing places found → pair ≡ (found.first_free, found.second_free) → free ≡ 0 → IsFreeLeaf places free pair.0
+first_chosen places found pair free pairing e zero =
+    subst (λ (b : ℕ). IsFreeLeaf places b pair.0) (sym zero) (subst (IsFreeLeaf places 0) (sym (ap (λ (p : ℕ × ℕ). p.0) e)) (first_is_free places found pairing))
 
-pub chosen_leaf : (places : List ℕ) (found : Pairs) (pair : ℕ × ℕ) (free place : ℕ) → IsPairing places found → pair ≡ (found.first_free, found.second_free) → free < 2 → IsChosen pair free place → IsFreeLeaf places free place
-chosen_leaf places found pair free place pairing e few (at_first zero is) =
-    subst (λ (b : ℕ). IsFreeLeaf places b place) (sym zero) (subst (IsFreeLeaf places 0) (sym (is ∙ ap (λ (p : ℕ × ℕ). p.0) e)) (first_is_free places found pairing))
-chosen_leaf places found pair free place pairing e few (at_second some is) =
-    let one : 1 ≡ free = (let low : (free ≡ 0 → ⊥) = some in omega arith) in
-    subst (λ (b : ℕ). IsFreeLeaf places b place) one (subst (IsFreeLeaf places 1) (sym (is ∙ ap (λ (p : ℕ × ℕ). p.1) e)) (second_is_free places found pairing))
+pub second_chosen : (places : List ℕ) (found : Pairs) (pair : ℕ × ℕ) (free : ℕ) → IsPairing places found → pair ≡ (found.first_free, found.second_free) → free < 2 → (free ≡ 0 → ⊥) → IsFreeLeaf places free pair.1
+second_chosen places found pair free pairing e few some =
+    let one : 1 ≡ free = omega arith in
+    subst (λ (b : ℕ). IsFreeLeaf places b pair.1) one (subst (IsFreeLeaf places 1) (sym (ap (λ (p : ℕ × ℕ). p.1) e)) (second_is_free places found pairing))
 
 pub free_leaf_letter : (places : List ℕ) (free place : ℕ) → IsFreeLeaf places free place → slice_index places place ≡ LEAF
 free_leaf_letter places free place is = (free_leaf_is_free places free place is).leaf
@@ -87,19 +85,16 @@ count_before letters place n some e =
     one ∙ ap suc (e ∙ sym (tally_is LEAF (take (place - 1) letters))) ∙ sym (tally_yes LEAF LEAF (take (place - 1) letters) refl)
     ∙ tally_is LEAF (LEAF ∷ take (place - 1) letters) ∙ ap (λ (k : ℕ). count LEAF (take k (contour letters))) next
 
--- what planting anew owes, of the place that is chosen
-pub chosen_within : (word letters : List ℕ) (found : Pairs) (pair : ℕ × ℕ) (free place : ℕ) → IsPairing (contour word) found → pair ≡ (found.first_free, found.second_free) → letters ≡ word → free < 2
-    → IsChosen pair free place → place ≤ length letters
-chosen_within word letters found pair free place pairing e same few chosen =
-    let inside = free_leaf_within (contour word) free place (chosen_leaf (contour word) found pair free place pairing e few chosen) in
+-- what planting anew owes, of the place of a free leaf
+pub free_leaf_inside : (word letters : List ℕ) (free place : ℕ) → letters ≡ word → IsFreeLeaf (contour word) free place → place ≤ length letters
+free_leaf_inside word letters free place same is =
+    let within = free_leaf_within (contour word) free place is in
     let long = ap length same in
     omega arith
 
-pub chosen_numbered : (word letters : List ℕ) (found : Pairs) (pair : ℕ × ℕ) (free place leaf : ℕ) → IsPairing (contour word) found → pair ≡ (found.first_free, found.second_free) → letters ≡ word → free < 2
-    → IsChosen pair free place → leaf ≡ count LEAF (take place (contour letters)) → IsFreeLeaf (contour word) free place × IsLeafAt (contour word) leaf place
-chosen_numbered word letters found pair free place leaf pairing e same few chosen counted =
-    let is = chosen_leaf (contour word) found pair free place pairing e few chosen in
-    (is, free_leaf_numbered (contour word) free place leaf is (counted ∙ ap (λ (xs : List ℕ). count LEAF (take place (contour xs))) same))
+pub free_leaf_counted : (word letters : List ℕ) (free place leaf : ℕ) → letters ≡ word → IsFreeLeaf (contour word) free place → leaf ≡ count LEAF (take place (contour letters)) → IsLeafAt (contour word) leaf place
+free_leaf_counted word letters free place leaf same is counted =
+    free_leaf_numbered (contour word) free place leaf is (counted ∙ ap (λ (xs : List ℕ). count LEAF (take place (contour xs))) same)
 
 pub old_number : (word : List ℕ) (leaf a b : ℕ) → a ≡ leaves word → b ≡ leaves word → leaf_after word leaf 0 ≡ (a - leaf) % b
 old_number word leaf a b e f = plain (leaves word) a b leaf e f where

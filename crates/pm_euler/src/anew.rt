@@ -4,7 +4,7 @@ ghost use Rattle.pm_trees.specs.declared.letters.TheConstants.{LEAF as leaf};
 ghost use Rattle.pm_trees.specs.Replanting.{IsAlike};
 ghost use Rattle.pm_trees.specs.Word.{contour, count};
 ghost use Rattle.pm_match.specs.Pair.{IsBalanced};
-ghost use Rattle.pm_euler.specs.PlantedAnew.{IsPlantedAnew};
+ghost use Rattle.pm_euler.specs.PlantedAnew.{IsFreeLeaf, IsPlantedAnew};
 
 use pm_match::matching;
 use pm_trees::{LEAF, Tree, replant};
@@ -25,15 +25,23 @@ pub(crate) fn plant_anew(alloc: Global, tree: &Tree, free: u64) -> Result<Plante
     ensures balanced { IfOk result (λ anew. IsBalanced (contour anew.tree)) }
     ensures alike { IfOk result (λ anew. IsAlike tree.now anew.tree) }
 {
-    let pairing = matching(alloc, tree)?;
-    let (first, second) = pairing.free();
-    let place = if free == 0 { first } else { second };
+    let place = free_leaf(alloc, tree, free)?;
     let leaf = leaves_before(tree.letters(), place);
     let replanted = replant(alloc, tree, leaf)?;
     Ok(PlantedAnew {
         tree: replanted,
         old_plant: (tree.leaves() - leaf) % tree.leaves(),
     })
+}
+
+/// The place of the free leaf of this number.
+fn free_leaf(alloc: Global, tree: &Tree, free: u64) -> Result<u32, AllocError>
+    requires { free < 2 }
+    ensures { IfOk result (IsFreeLeaf (contour tree.now) free) }
+{
+    let pairing = matching(alloc, tree)?;
+    let (first, second) = pairing.free();
+    Ok(if free == 0 { first } else { second })
 }
 
 /// How many leaves stand before the place along the contour.

@@ -49,10 +49,7 @@ impl MapClass for Quartic {
     }
 
     fn choice_bounds(alloc: Global, size: &u32) -> Result<Bounds, AllocError> {
-        let mut limits = limits_of_growth(alloc, *size)?;
-        let patterns = vec![in alloc; 3u64; *size as usize]?;
-        limits.extend_from_slice(&patterns)?;
-        limits.push(2)?;
+        let limits = limits_of_choices(alloc, *size)?;
         Ok(Bounds::of(limits))
     }
 
@@ -81,6 +78,17 @@ impl MapClass for Quartic {
     }
 
     fn is_sampled_once() {}
+}
+
+/// The bounds of the choices: a growth, a bud pattern for each fork, and one of the two free leaves.
+fn limits_of_choices(alloc: Global, size: u32) -> Result<Vec<u64>, AllocError>
+    ensures { IfOk result (λ limits. limits.items ≡ quartic_choices size) }
+{
+    let mut limits = limits_of_growth(alloc, size)?;
+    let patterns = vec![in alloc; 3u64; size as usize]?;
+    limits.extend_from_slice(&patterns)?;
+    limits.push(2)?;
+    Ok(limits)
 }
 
 /// The map and the residue of valid choices.
