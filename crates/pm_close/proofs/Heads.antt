@@ -1,18 +1,18 @@
 -- Each vertex of a closure has the head of one node.
-use Rattle.std.proofs.Common.{◌≡◌, ◌≢◌, ℕ, zero, suc, ◌+◌, ◌-◌, ◌%◌, ◌<◌, ◌≤◌, ◌⊎◌, inl, inr, List, [], ◌∷◌, length, get_or, drop, map, refl, sym, ◌∙◌, ap, subst, arith}
+use Rattle.std.proofs.Common.{◌≡◌, ◌≢◌, ℕ, zero, suc, ◌+◌, ◌-◌, ◌%◌, ◌<◌, ◌≤◌, ◌⊎◌, inl, inr, List, [], ◌∷◌, length, get_or, drop, refl, sym, ◌∙◌, ap, subst, arith}
 use Rattle.std.specs.Prelude.{slice_index}
-use Rattle.std.proofs.lemmas.Bool.{cases_lt, cases_eq}
-use Rattle.std.proofs.lemmas.List.{get_or_past, get_or-map, length-map}
+use Rattle.std.proofs.lemmas.Bool.{cases_eq}
+use Rattle.std.proofs.lemmas.List.{get_or-map, length-map}
 use Rattle.std.proofs.Common.{get_or-drop}
 use Rattle.pm_perm.specs.Permutation.{IsPermutationBelow}
 use Rattle.pm_perm.specs.Cycles.{repeated, IsInCycle}
 use Rattle.pm_perm.proofs.SameCycle.{in_cycle-through, in_cycle-back}
 use Rattle.pm_trees.specs.declared.letters.TheConstants.{LEAF, OPEN, CLOSE}
-use Rattle.pm_trees.specs.Word.{IsBracketPair, IsBracketing, IsInOrder, contour}
+use Rattle.pm_trees.specs.Word.{IsBracketing, IsInOrder, contour}
 use Rattle.pm_trees.specs.Node.{IsNode, own_letters, entries, degree}
-use Rattle.pm_trees.proofs.Nesting.{one_closer, one_opener}
+use Rattle.pm_trees.proofs.Nesting.{one_closer}
 use Rattle.pm_trees.proofs.RingPlaces.{mod_stays}
-use Rattle.pm_trees.proofs.Own.{IsOther, other_here, other_above, open_above, close_above}
+use Rattle.pm_trees.proofs.Own.{other_here, other_above, open_above, close_above}
 use Rattle.pm_map.specs.Structure.{Structure}
 use Rattle.pm_map.specs.CycleSize.{IsCycleSize}
 use Rattle.pm_map.specs.Meeting.{IsVertexFrom, Stands}

@@ -1,55 +1,33 @@
 -- The vertices of a closure have the degrees of the nodes, and there are as many of each.
-use Rattle.std.proofs.Common.{◌≡◌, ◌≢◌, ℕ, zero, suc, ◌+◌, ◌%◌, ◌<◌, ◌≤◌, ◌==◌, ◌&&◌, ◌||◌, Bool, true, false, inl, inr, List, length, nat_eq, if◌then◌else◌, refl, sym, ◌∙◌, ap, subst, arith}
+use Rattle.std.proofs.Common.{◌≡◌, ◌≢◌, ℕ, zero, suc, ◌+◌, ◌<◌, ◌≤◌, ◌==◌, ◌&&◌, ◌||◌, Bool, true, false, inl, inr, List, length, if◌then◌else◌, refl, sym, ◌∙◌, ap, subst, arith}
 use Rattle.std.specs.Prelude.{slice_index}
 use Rattle.std.proofs.lemmas.Bool.{cases_lt, cases_eq, eqb-true, eq-eqb, ne_eqb}
 use Rattle.std.proofs.lemmas.List.{get_or_past}
 use Rattle.pm_perm.specs.Permutation.{IsPermutationBelow}
 use Rattle.pm_perm.specs.Count.{count_below}
-use Rattle.pm_perm.specs.Cycles.{repeated, leader, IsInCycle}
+use Rattle.pm_perm.specs.Cycles.{leader, IsInCycle}
 use Rattle.pm_perm.proofs.Counts.{count_below-into}
 use Rattle.pm_perm.proofs.InverseLemmas.{place_of, place_of-stays, value-place_of}
 use Rattle.pm_perm.proofs.LeaderMaps.{leader-map, leader-is_least, leader_map-inside, leader_map-twice}
-use Rattle.pm_perm.proofs.Repeats.{repeated-inside}
-use Rattle.pm_perm.proofs.SameCycle.{in_cycle-back, in_cycle-leader, leader-in_cycle, in_cycle-through}
+use Rattle.pm_perm.proofs.SameCycle.{in_cycle-back, in_cycle-leader, leader-in_cycle}
 use Rattle.pm_trees.specs.declared.letters.TheConstants.{OPEN, CLOSE}
 use Rattle.pm_trees.specs.Word.{IsBracketing, IsInOrder, contour}
 use Rattle.pm_trees.specs.Node.{IsNode, degree}
 use Rattle.pm_trees.specs.Degrees.{has_degree, nodes_before, nodes_of}
-use Rattle.pm_trees.specs.Blossoming.{IsBlossoming}
 use Rattle.pm_trees.proofs.Bracketed.{bracketing_exists}
 use Rattle.pm_trees.proofs.Nesting.{other_below, one_opener, one_closer}
 use Rattle.pm_trees.proofs.RingPlaces.{mod_under}
-use Rattle.pm_match.specs.Pair.{IsBalanced}
-use Rattle.pm_map.specs.Structure.{Structure, CarriesTo}
 use Rattle.pm_map.specs.Rotation.{RotationSystem, structure_of, IsRootedMap}
 use Rattle.pm_map.specs.CycleSize.{IsCycleSize}
 use Rattle.pm_map.specs.Classes.{degree_of, vertices_of_degree}
+use Rattle.pm_map.proofs.CarriedSizes.{cycle_carried, cycle_back, size_carried}
 use Rattle.pm_map.proofs.CycleSizes.{IsCycleSize-along}
 use Rattle.pm_map.proofs.DegreeCounts.{degree_counts_darts}
 use Rattle.pm_close.specs.Closure.{IsClosed, dart_of}
-use Rattle.pm_close.specs.NodeDegrees.{IsNodeOf, HasNodeDegrees, DegreesAreKept}
+use Rattle.pm_close.specs.NodeDegrees.{HasNodeDegrees, DegreesAreKept}
 use Rattle.pm_close.proofs.ClosureLemmas.{bracketing_across}
 use Rattle.pm_close.proofs.Heads.{head_size, some_head, one_head}
 use Rattle.pm_close.proofs.PlaneMap.{rooted_closure}
-
--- cycles and their sizes are carried to the other structure
-module _ (f : ℕ → ℕ) (a b : Structure) (c : CarriesTo f a b) (perm : IsPermutationBelow a.darts a.next) where
-  carried_steps : (k p : ℕ) → p < a.darts → f (repeated a.next k p) ≡ repeated b.next k (f p)
-  carried_steps zero p l = refl
-  carried_steps (suc k) p l = c.next (repeated a.next k p) (repeated-inside a.next a.darts perm k p l) ∙ ap b.next (carried_steps k p l)
-
-  cycle_carried : (p q : ℕ) → p < a.darts → IsInCycle a.next p q → IsInCycle b.next (f p) (f q)
-  cycle_carried p q l h = record { steps = h.steps; leads = sym (carried_steps h.steps p l) ∙ ap f h.leads }
-
-  cycle_back : (p q : ℕ) → p < a.darts → q < a.darts → IsInCycle b.next (f p) (f q) → IsInCycle a.next p q
-  cycle_back p q l m h = record { steps = h.steps; leads = c.renumbers.injective (repeated a.next h.steps p) q (repeated-inside a.next a.darts perm h.steps p l) m (carried_steps h.steps p l ∙ h.leads) }
-
-  size_carried : (p size : ℕ) → p < a.darts → IsCycleSize a.next p size → IsCycleSize b.next (f p) size
-  size_carried p size l is = record {
-    some = is.some;
-    back = sym (carried_steps size p l) ∙ ap f is.back;
-    least = λ k some less e. is.least k some less (c.renumbers.injective (repeated a.next k p) p (repeated-inside a.next a.darts perm k p l) l (carried_steps k p l ∙ e));
-  }
 
 -- a cycle has one size
 one_size : (f : ℕ → ℕ) (d a b : ℕ) → IsCycleSize f d a → IsCycleSize f d b → a ≡ b

@@ -19,7 +19,7 @@ use Rattle.pm_close.proofs.RootedClosure.{one_closure}
 use Rattle.pm_close.proofs.PlaneMap.{rooted_closure}
 use Rattle.pm_close.proofs.KeptDegrees.{kept}
 use Rattle.pm_euler.specs.Closed.{IsCanonicalClosure}
-use Rattle.pm_euler.proofs.CarriedSizes.{sizes_carried}
+use Rattle.pm_map.proofs.CarriedSizes.{sizes_carried}
 use Rattle.pm_euler.proofs.QuarticMaps.{four_each}
 
 pub canonical_closure_is_rooted : (word : List ℕ) (map : RotationSystem) → IsBlossoming word → IsBalanced (contour word) → IsCanonicalClosure word map → IsRootedMap map

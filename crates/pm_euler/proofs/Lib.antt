@@ -1,7 +1,5 @@
 pub mod BoundLemmas
-pub mod CarriedSizes
 pub mod ClosedMaps
-pub mod DegreeTotals
 pub mod FreeLeaves
 pub mod OneSample
 pub mod PlantingSteps

@@ -12,7 +12,7 @@ use Rattle.pm_map.specs.declared.admitted.Degrees.TheVariants.{Exactly}
 use Rattle.pm_map.specs.declared.class_refusal.ClassRefusal.TheVariants.{Memory, Empty, TooMany, Vertex, Face, Loop, Double}
 use Rattle.pm_euler.specs.Quartic.{IsQuarticSize}
 use Rattle.pm_euler.specs.Sampling.{IsSizeWhereAnswered, HasOneAnswer}
-use Rattle.pm_euler.proofs.DegreeTotals.{darts_of_degree}
+use Rattle.pm_map.proofs.DegreeTotals.{darts_of_degree}
 
 -- four times the vertices are the darts
 pub four_each : (s : Structure) → IsStructure s → 0 < s.darts → ((d : ℕ) → d < s.darts → IsCycleSize s.next d 4) → 4 * vertices s ≡ s.darts

@@ -1,9 +1,11 @@
 pub mod CanonicalNames
 pub mod CarriedMeeting
+pub mod CarriedSizes
 pub mod CarriedStructure
 pub mod CycleSizes
 pub mod DegreeCounts
 pub mod DegreeRules
+pub mod DegreeTotals
 pub mod FaceLemmas
 pub mod FaceWalkLemmas
 pub mod MarksLemmas
