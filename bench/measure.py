@@ -21,10 +21,8 @@ BLOCK = 65536
 
 DEEP_NODES = [10_000, 50_000, 200_000]
 WIDE_HUBS = [106, 1_064, 4_255]
-
-# How many edges the map has: half the sum of the degrees. Beside H hubs of degree 64, 31 H + 1 nodes have degree 4.
-DEEP_EDGES = {nodes: 2 * nodes for nodes in DEEP_NODES}
-WIDE_EDGES = {hubs: 94 * hubs + 2 for hubs in WIDE_HUBS}
+MAP_NODES = [5_000, 50_000, 500_000]
+SAMPLE_NODES = [1_000, 10_000, 100_000, 1_000_000]
 
 
 class Run:
@@ -117,21 +115,41 @@ def start_up(programs):
     return floor, right
 
 
-def close_once(programs, tree, answers):
-    """The best runs of `close eulerian` on the file `tree`, and whether the outputs of each round were the same."""
+class Case:
+    """One input: how it is called, how many edges its map has, and the steps that make its file. A step is the words of a
+    program, whose output is the next one's input; the last one's output is the file."""
+
+    def __init__(self, label, edges, steps):
+        self.label = label
+        self.edges = edges
+        self.steps = steps
+
+    def make(self, folder):
+        """Makes the file. Answers its name, and whether each step ended well."""
+        source = os.devnull
+        right = True
+        for number, words in enumerate(self.steps):
+            target = os.path.join(folder, f"step{number}")
+            right = run(words, source, target).status == 0 and right
+            source = target
+        return source, right
+
+
+def answer_once(programs, words, source, answers):
+    """The best runs of a command on a file, and whether the outputs of each round were the same."""
     runs = [[] for _ in programs]
     same = True
     for _ in range(ROUNDS):
         for number, (_, path) in enumerate(programs):
-            runs[number].append(run([path, "close", "eulerian"], tree, answers[number]))
+            runs[number].append(run([path] + words, source, answers[number]))
         same = same and equal_files(answers[0], answers[-1])
     return [best(each) for each in runs], same
 
 
-def close_row(label, edges, results, same, floor):
+def answer_row(case, results, same, floor):
     """One row of the table: the program, its time per edge, then the other one, the ratios and whether they agree."""
-    cells = [label, f"{edges:,}", str(results[0].status), f"{results[0].seconds:.3f}"]
-    cells += [f"{results[0].seconds / edges * 1e9:.0f}", megabytes(results[0].kilobytes, floor)]
+    cells = [case.label, f"{case.edges:,}", str(results[0].status), f"{results[0].seconds:.3f}"]
+    cells += [f"{results[0].seconds / case.edges * 1e9:.0f}", megabytes(results[0].kilobytes, floor)]
     if len(results) == 2:
         other = results[1]
         cells += [f"{other.seconds:.3f}", megabytes(other.kilobytes, floor)]
@@ -141,23 +159,45 @@ def close_row(label, edges, results, same, floor):
     row(cells)
 
 
-def close_table(programs, folder, kind, sizes, floor):
-    """One table of `close eulerian` on trees of a kind, of some sizes. Answers whether all went right."""
-    titles = [f"{kind.capitalize()} trees", "edges", "status", "seconds", "ns per edge", "MB"]
+def answer_table(programs, folder, title, words_of, cases, floor):
+    """One table of a command on some inputs. Answers whether all went right."""
+    titles = [title, "edges", "status", "seconds", "ns per edge", "MB"]
     if len(programs) == 2:
         titles += ["other: seconds", "other: MB", "ratio of seconds", "ratio of MB", "same output"]
     head(titles)
-    tree = os.path.join(folder, "tree")
-    answers = [os.path.join(folder, f"map{number}") for number in range(len(programs))]
-    maker = os.path.join(os.path.dirname(os.path.abspath(__file__)), "trees.py")
+    answers = [os.path.join(folder, f"answer{number}") for number in range(len(programs))]
     right = True
-    for size, edges in sizes.items():
-        made = run([sys.executable, maker, kind, str(size)], target=tree)
-        results, same = close_once(programs, tree, answers)
-        close_row(f"{size:,}", edges, results, same, floor)
-        right = right and made.status == 0 and same and all(each.status == 0 for each in results)
+    for case in cases:
+        source, made = case.make(folder)
+        results, same = answer_once(programs, words_of(case), source, answers)
+        answer_row(case, results, same, floor)
+        right = right and made and same and all(each.status == 0 for each in results)
     print()
     return right
+
+
+def maker(script, *words):
+    """The words that run a script of this folder."""
+    return [sys.executable, os.path.join(os.path.dirname(os.path.abspath(__file__)), script)] + [str(word) for word in words]
+
+
+def tables(program):
+    """The tables: a title, the words of the command for a case, and the cases. The number of edges is half the sum of the
+    degrees: beside H hubs of degree 64, 31 H + 1 nodes have degree 4."""
+    deep = [Case(f"{nodes:,}", 2 * nodes, [maker("trees.py", "deep", nodes)]) for nodes in DEEP_NODES]
+    wide = [Case(f"{hubs:,}", 94 * hubs + 2, [maker("trees.py", "wide", hubs)]) for hubs in WIDE_HUBS]
+    maps = []
+    for nodes in MAP_NODES:
+        steps = [maker("trees.py", "deep", nodes), [program, "close", "eulerian"], maker("maps.py")]
+        maps.append(Case(f"{nodes:,}", 2 * nodes, steps))
+    samples = [Case(str(nodes), 2 * nodes, [maker("choices.py", "quartic", nodes)]) for nodes in SAMPLE_NODES]
+    return [
+        ("Deep trees, `close eulerian`", lambda case: ["close", "eulerian"], deep),
+        ("Wide trees, `close eulerian`", lambda case: ["close", "eulerian"], wide),
+        ("Maps, `canon`", lambda case: ["canon"], maps),
+        ("Maps, `check general`", lambda case: ["check", "general"], maps),
+        ("Choices, `sample quartic`", lambda case: ["sample", "quartic", case.label], samples),
+    ]
 
 
 def main():
@@ -165,8 +205,8 @@ def main():
     programs = list(zip(["program", "other"], map(os.path.abspath, sys.argv[2:])))
     machine(ROUNDS)
     floor, right = start_up(programs)
-    for kind, sizes in [("deep", DEEP_EDGES), ("wide", WIDE_EDGES)]:
-        right = close_table(programs, folder, kind, sizes, floor) and right
+    for title, words_of, cases in tables(programs[0][1]):
+        right = answer_table(programs, folder, title, words_of, cases, floor) and right
     if right:
         same = ", and both programs printed the same." if len(programs) == 2 else "."
         print("Each run ended with the right status" + same)

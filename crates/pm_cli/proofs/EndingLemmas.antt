@@ -7,13 +7,13 @@ use Rattle.pm_io.specs.declared.TheConstants.{MAX_BYTES}
 use Rattle.pm_io.specs.Bytes.{added}
 use Rattle.pm_io.specs.Faults.{FaultsRose}
 use Rattle.pm_cli.specs.declared.words.Command.{Command}
-use Rattle.pm_cli.specs.declared.words.Command.TheVariants.{CloseEulerian, Canon, CheckGeneral}
+use Rattle.pm_cli.specs.declared.words.Command.TheVariants.{CloseEulerian, Canon, CheckGeneral, CheckQuartic, SampleQuartic}
 use Rattle.pm_cli.specs.declared.refusal.Limit.TheVariants.{Bytes, Letters, Edges}
 use Rattle.pm_cli.specs.declared.refusal.Refusal.{Refusal}
-use Rattle.pm_cli.specs.declared.refusal.Refusal.TheVariants.{Usage, Text, Limited, Map, Tree}
+use Rattle.pm_cli.specs.declared.refusal.Refusal.TheVariants.{Usage, Text, Limited, Map, Tree, Invalid}
 use Rattle.pm_cli.specs.declared.refusal.Stop.{Stop}
 use Rattle.pm_cli.specs.declared.refusal.Stop.TheVariants.{Refused, Read, Write, Memory}
-use Rattle.pm_cli.specs.Commands.{spelling, reads, IsNoCommand}
+use Rattle.pm_cli.specs.Commands.{Spells, reads, IsNoCommand}
 use Rattle.pm_cli.specs.Answer.{Answers, no_command, too_long, of_file, CommandAnswers}
 use Rattle.pm_cli.specs.Answering.{IsAnswerOf}
 use Rattle.pm_cli.specs.Lines.{status_of_stop}
@@ -31,9 +31,11 @@ pub reads_input : (command : Command) → reads command ≡ true
 reads_input CloseEulerian = refl
 reads_input Canon = refl
 reads_input CheckGeneral = refl
+reads_input CheckQuartic = refl
+reads_input (SampleQuartic size) = refl
 
 -- the bytes that the input holds, for a command that reads
-told : (words : List (List ℕ)) (command : Command) (left : Option (List ℕ)) (bytes : List ℕ) → words ≡ spelling command → IsInput words left bytes → left ≡ Some bytes
+told : (words : List (List ℕ)) (command : Command) (left : Option (List ℕ)) (bytes : List ℕ) → Spells words command → IsInput words left bytes → left ≡ Some bytes
 told words command left bytes spells input = elim input [ inl h ↦ h | inr nothing ↦ absurd (true_false (sym (reads_input command) ∙ nothing command spells)) ] where
   true_false : true ≡ false → ⊥
   true_false e = cc
@@ -44,7 +46,7 @@ ends_unread words left old k none bytes input = (no_command k none, refl)
 
 -- an input that wasn't read
 pub ends_reading : (words : List (List ℕ)) (command : Command) (left after old : Option (List ℕ)) (faults_old faults_new : ℕ) (stop : Stop)
-    → words ≡ spelling command → IsReading left after faults_old faults_new (Err stop) → Ends words left old old (Err stop)
+    → Spells words command → IsReading left after faults_old faults_new (Err stop) → Ends words left old old (Err stop)
 ends_reading words command left after old f g (Refused (Limited Bytes)) spells why bytes input =
     (too_long command spells (reads_input command) (why.over bytes (told words command left bytes spells input)), refl)
 ends_reading words command left after old f g (Refused (Limited (Letters letters))) spells why bytes input = absurd why
@@ -53,24 +55,25 @@ ends_reading words command left after old f g (Refused (Usage matched)) spells w
 ends_reading words command left after old f g (Refused (Map rule)) spells why bytes input = absurd why
 ends_reading words command left after old f g (Refused (Text line)) spells why bytes input = absurd why
 ends_reading words command left after old f g (Refused (Tree rule)) spells why bytes input = absurd why
+ends_reading words command left after old f g (Refused (Invalid list)) spells why bytes input = absurd why
 ends_reading words command left after old f g Read spells why bytes input = refl
 ends_reading words command left after old f g Memory spells why bytes input = refl
 ends_reading words command left after old f g Write spells why bytes input = absurd why
 
 -- what the command answers to the bytes read is the answer to the bytes that the input held
 answers_file : (words : List (List ℕ)) (command : Command) (left after : Option (List ℕ)) (f g : ℕ) (read bytes : List ℕ) (answer : Result (List ℕ) Refusal)
-    → words ≡ spelling command → HasRead left after f g read → CommandAnswers command read answer → IsInput words left bytes → Answers words bytes answer
+    → Spells words command → HasRead left after f g read → CommandAnswers command read answer → IsInput words left bytes → Answers words bytes answer
 answers_file words command left after f g read bytes answer spells was_read answers input =
     let same : read ≡ bytes = (was_read.whole bytes (told words command left bytes spells input)).0 in
     subst (λ (b : List ℕ). Answers words b answer) same (of_file command spells (reads_input command) was_read.within answer answers)
 
 -- a file that is refused, or memory that is wanting
 pub ends_answering : (words : List (List ℕ)) (command : Command) (left after old : Option (List ℕ)) (f g : ℕ) (read given : List ℕ) (stop : Stop)
-    → words ≡ spelling command → HasRead left after f g read → given ≡ read → IsAnswerOf command given (Err stop) → Ends words left old old (Err stop)
+    → Spells words command → HasRead left after f g read → given ≡ read → IsAnswerOf command given (Err stop) → Ends words left old old (Err stop)
 ends_answering words command left after old f g read given stop spells was_read same answers =
     by_stop words command left after old f g read stop spells was_read (subst (λ (b : List ℕ). IsAnswerOf command b (Err stop)) same answers) where
       by_stop : (words : List (List ℕ)) (command : Command) (left after old : Option (List ℕ)) (f g : ℕ) (read : List ℕ) (stop : Stop)
-          → words ≡ spelling command → HasRead left after f g read → IsAnswerOf command read (Err stop) → Ends words left old old (Err stop)
+          → Spells words command → HasRead left after f g read → IsAnswerOf command read (Err stop) → Ends words left old old (Err stop)
       by_stop words command left after old f g read (Refused refusal) spells was_read answers bytes input =
           (answers_file words command left after f g read bytes (Err refusal) spells was_read answers input, refl)
       by_stop words command left after old f g read Memory spells was_read answers bytes input = refl
@@ -79,7 +82,7 @@ ends_answering words command left after old f g read given stop spells was_read 
 
 -- an answer that was written, or not whole
 written_by : (words : List (List ℕ)) (command : Command) (left after old new : Option (List ℕ)) (f g h i : ℕ) (read text : List ℕ) (result : Result (Unit {0}) Stop)
-    → words ≡ spelling command → HasRead left after f g read → CommandAnswers command read (Ok text) → IsWriting text old new h i result → Ends words left old new result
+    → Spells words command → HasRead left after f g read → CommandAnswers command read (Ok text) → IsWriting text old new h i result → Ends words left old new result
 written_by words command left after old new f g h i read text (Ok done) spells was_read answers written bytes input = record {
   text = text;
   answers = answers_file words command left after f g read bytes (Ok text) spells was_read answers input;
@@ -96,7 +99,7 @@ written_by words command left after old new f g h i read text (Err Memory) spell
 written_by words command left after old new f g h i read text (Err (Refused refusal)) spells was_read answers written bytes input = absurd written
 
 pub ends_writing : (words : List (List ℕ)) (command : Command) (left after old new : Option (List ℕ)) (f g h i : ℕ) (read given : List ℕ) (text : Vec ℕ Global) (sent : List ℕ)
-    (result : Result (Unit {0}) Stop) → words ≡ spelling command → HasRead left after f g read → given ≡ read → IsAnswerOf command given (Ok text)
+    (result : Result (Unit {0}) Stop) → Spells words command → HasRead left after f g read → given ≡ read → IsAnswerOf command given (Ok text)
     → sent ≡ text.items → IsWriting sent old new h i result → Ends words left old new result
 ends_writing words command left after old new f g h i read given text sent result spells was_read same answers same_text written =
     written_by words command left after old new f g h i read text.items result spells was_read

@@ -2,24 +2,29 @@
 use Rattle.std.specs.Prelude.{◌≡◌, ℕ, ◌<◌, ◌≤◌, true, List, length, Result, Err}
 use Rattle.pm_io.specs.declared.TheConstants.{MAX_BYTES}
 use Rattle.pm_cli.specs.declared.words.Command.{Command}
-use Rattle.pm_cli.specs.declared.words.Command.TheVariants.{CloseEulerian, Canon, CheckGeneral}
+use Rattle.pm_cli.specs.declared.words.Command.TheVariants.{CloseEulerian, Canon, CheckGeneral, CheckQuartic, SampleQuartic}
 use Rattle.pm_cli.specs.declared.refusal.Limit.TheVariants.{Bytes}
 use Rattle.pm_cli.specs.declared.refusal.Refusal.{Refusal}
 use Rattle.pm_cli.specs.declared.refusal.Refusal.TheVariants.{Usage, Limited}
-use Rattle.pm_cli.specs.Commands.{spelling, reads, IsNoCommand}
+use Rattle.pm_euler.specs.Bounds.{quartic_choices}
+use Rattle.pm_euler.specs.Quartic.{SamplesQuartic}
+use Rattle.pm_cli.specs.Commands.{Spells, reads, IsNoCommand}
 use Rattle.pm_cli.specs.Closing.{ClosesEulerian}
-use Rattle.pm_cli.specs.MapCommands.{Canonizes, ChecksGeneral}
+use Rattle.pm_cli.specs.MapCommands.{Canonizes, ChecksGeneral, ChecksQuartic}
+use Rattle.pm_cli.specs.Sampling.{Samples}
 
 -- what a command answers to a file within the limit
 abbrev pub CommandAnswers : Command → List ℕ → Result (List ℕ) Refusal → Type 0
 CommandAnswers CloseEulerian bytes answer = ClosesEulerian bytes answer
 CommandAnswers Canon bytes answer = Canonizes bytes answer
 CommandAnswers CheckGeneral bytes answer = ChecksGeneral bytes answer
+CommandAnswers CheckQuartic bytes answer = ChecksQuartic bytes answer
+CommandAnswers (SampleQuartic size) bytes answer = Samples (quartic_choices size) (SamplesQuartic size) bytes answer
 
 -- the answer, by the first rule that applies
 pub data Answers (words : List (List ℕ)) (bytes : List ℕ) : Result (List ℕ) Refusal → Type 0 where
   no_command : (k : ℕ) → IsNoCommand words k → Answers words bytes (Err (Usage k))
-  too_long : (command : Command) → words ≡ spelling command → reads command ≡ true → MAX_BYTES < length bytes
+  too_long : (command : Command) → Spells words command → reads command ≡ true → MAX_BYTES < length bytes
       → Answers words bytes (Err (Limited Bytes))
-  of_file : (command : Command) → words ≡ spelling command → reads command ≡ true → length bytes ≤ MAX_BYTES
+  of_file : (command : Command) → Spells words command → reads command ≡ true → length bytes ≤ MAX_BYTES
       → (answer : Result (List ℕ) Refusal) → CommandAnswers command bytes answer → Answers words bytes answer

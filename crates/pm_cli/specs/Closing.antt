@@ -3,7 +3,7 @@ use Rattle.std.specs.Prelude.{ℕ, List, Result, Ok, Err}
 use Rattle.pm_cli.specs.declared.refusal.Limit.TheVariants.{Bytes, Letters, Edges}
 use Rattle.pm_cli.specs.declared.refusal.TreeRule.TheVariants.{Degree, Buds, Matched}
 use Rattle.pm_cli.specs.declared.refusal.Refusal.{Refusal}
-use Rattle.pm_cli.specs.declared.refusal.Refusal.TheVariants.{Usage, Text, Limited, Map, Tree}
+use Rattle.pm_cli.specs.declared.refusal.Refusal.TheVariants.{Usage, Text, Limited, Map, Tree, Invalid}
 use Rattle.pm_text.specs.Broken.{IsBrokenLine}
 use Rattle.pm_trees.specs.Word.{contour}
 use Rattle.pm_trees.specs.Blossoming.{IsBlossoming}
@@ -41,4 +41,5 @@ ClosesEulerian bytes (Err (Tree (Matched bud))) = HasWord bytes (IsMatchedPlant 
 ClosesEulerian bytes (Err (Limited Bytes)) = ⊥
 ClosesEulerian bytes (Err (Limited (Edges edges))) = ⊥
 ClosesEulerian bytes (Err (Map rule)) = ⊥
+ClosesEulerian bytes (Err (Invalid list)) = ⊥
 ClosesEulerian bytes (Err (Usage matched)) = ⊥

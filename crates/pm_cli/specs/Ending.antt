@@ -9,13 +9,13 @@ use Rattle.pm_cli.specs.declared.refusal.Limit.TheVariants.{Bytes}
 use Rattle.pm_cli.specs.declared.refusal.Refusal.TheVariants.{Limited}
 use Rattle.pm_cli.specs.declared.refusal.Stop.{Stop}
 use Rattle.pm_cli.specs.declared.refusal.Stop.TheVariants.{Refused, Read, Write, Memory}
-use Rattle.pm_cli.specs.Commands.{spelling, reads}
+use Rattle.pm_cli.specs.Commands.{Spells, reads}
 use Rattle.pm_cli.specs.Answer.{Answers}
 use Rattle.pm_cli.specs.Lines.{status_of, line_of}
 
 -- the words are no command that reads
 abbrev pub ReadNothing : List (List ℕ) → Type 0
-ReadNothing words = (command : Command) → words ≡ spelling command → reads command ≡ false
+ReadNothing words = (command : Command) → Spells words command → reads command ≡ false
 
 -- the input holds these bytes, where it tells them; where the words read nothing, any bytes serve
 abbrev pub IsInput : List (List ℕ) → Option (List ℕ) → List ℕ → Type 0

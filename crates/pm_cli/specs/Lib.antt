@@ -1,5 +1,6 @@
 pub mod Answer
 pub mod Answering
+pub mod ChoicesFile
 pub mod Closing
 pub mod Commands
 pub mod Ending
@@ -7,4 +8,5 @@ pub mod Laws
 pub mod Lines
 pub mod MapCommands
 pub mod MapReading
+pub mod Sampling
 pub mod TreeFile

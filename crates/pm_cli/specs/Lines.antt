@@ -1,14 +1,16 @@
 -- The statuses of the program, and the lines that it writes to its standard error.
 use Rattle.std.specs.Prelude.{ℕ, List, [], ◌∷◌, ◌++◌, codes, decimal, Result, Ok, Err}
 use Rattle.std.specs.Fmt.{signed_decimal}
+use Rattle.pm_lists.specs.declared.check.ListRefusal.{ListRefusal}
+use Rattle.pm_lists.specs.declared.check.ListRefusal.TheVariants.{Length, Entry}
 use Rattle.pm_cli.specs.declared.refusal.Limit.{Limit}
 use Rattle.pm_cli.specs.declared.refusal.Limit.TheVariants.{Bytes, Letters, Edges}
 use Rattle.pm_cli.specs.declared.refusal.MapRule.{MapRule}
-use Rattle.pm_cli.specs.declared.refusal.MapRule.TheVariants.{Permutation, Connected, Euler}
+use Rattle.pm_cli.specs.declared.refusal.MapRule.TheVariants.{Permutation, Connected, Euler, Empty, Vertex, Face, Loop, Double}
 use Rattle.pm_cli.specs.declared.refusal.TreeRule.{TreeRule}
 use Rattle.pm_cli.specs.declared.refusal.TreeRule.TheVariants.{Degree, Buds, Matched}
 use Rattle.pm_cli.specs.declared.refusal.Refusal.{Refusal}
-use Rattle.pm_cli.specs.declared.refusal.Refusal.TheVariants.{Usage, Text, Limited, Map, Tree}
+use Rattle.pm_cli.specs.declared.refusal.Refusal.TheVariants.{Usage, Text, Limited, Map, Tree, Invalid}
 use Rattle.pm_cli.specs.declared.refusal.Stop.{Stop}
 use Rattle.pm_cli.specs.declared.refusal.Stop.TheVariants.{Refused, Read, Write, Memory}
 
@@ -19,6 +21,7 @@ status_of_refusal (Text line) = 3
 status_of_refusal (Limited limit) = 7
 status_of_refusal (Map rule) = 6
 status_of_refusal (Tree rule) = 12
+status_of_refusal (Invalid list) = 4
 
 -- the status of a run that stopped
 abbrev pub status_of_stop : Stop → ℕ
@@ -45,6 +48,15 @@ abbrev pub text_of_map_rule : MapRule → List ℕ
 text_of_map_rule (Permutation dart) = codes "map permutation " ++ decimal dart
 text_of_map_rule (Connected dart) = codes "map connected " ++ decimal dart
 text_of_map_rule (Euler number) = codes "map euler " ++ signed_decimal number
+text_of_map_rule Empty = codes "map empty"
+text_of_map_rule (Vertex dart) = codes "map vertex " ++ decimal dart
+text_of_map_rule (Face dart) = codes "map face " ++ decimal dart
+text_of_map_rule (Loop dart) = codes "map loop " ++ decimal dart
+text_of_map_rule (Double dart) = codes "map double " ++ decimal dart
+
+abbrev pub text_of_list : ListRefusal → List ℕ
+text_of_list (Length want have) = codes "list length " ++ decimal want ++ codes " " ++ decimal have
+text_of_list (Entry place value bound) = codes "list entry " ++ decimal place ++ codes " " ++ decimal value ++ codes " " ++ decimal bound
 
 abbrev pub text_of_rule : TreeRule → List ℕ
 text_of_rule (Degree place) = codes "tree degree " ++ decimal place
@@ -57,6 +69,7 @@ text_of_refusal (Text line) = codes "text " ++ decimal line
 text_of_refusal (Limited limit) = text_of_limit limit
 text_of_refusal (Map rule) = text_of_map_rule rule
 text_of_refusal (Tree rule) = text_of_rule rule
+text_of_refusal (Invalid list) = text_of_list list
 
 abbrev pub text_of_stop : Stop → List ℕ
 text_of_stop (Refused refusal) = text_of_refusal refusal

@@ -3,9 +3,11 @@ use Rattle.std.specs.Prelude.{◌≡◌, ℕ, List, Option, Result, Ok, Err, ⊤
 use Rattle.pm_map.specs.declared.rooted_map.RootedMap.{RootedMap}
 use Rattle.pm_map.specs.declared.refusal.MapRefusal.{MapRefusal}
 use Rattle.pm_map.specs.declared.refusal.MapRefusal.TheVariants.{Memory as MemoryOfMap, TooMany, NotPermutation, NotConnected, Genus}
+use Rattle.pm_map.specs.declared.class_refusal.ClassRefusal.{ClassRefusal}
+use Rattle.pm_map.specs.declared.class_refusal.ClassRefusal.TheVariants as class
 use Rattle.pm_mapfile.specs.Answers.{AnswersFile}
 use Rattle.pm_cli.specs.declared.refusal.Limit.TheVariants.{Edges}
-use Rattle.pm_cli.specs.declared.refusal.MapRule.TheVariants.{Permutation, Connected, Euler}
+use Rattle.pm_cli.specs.declared.refusal.MapRule.TheVariants.{Permutation, Connected, Euler, Empty, Vertex, Face, Loop, Double}
 use Rattle.pm_cli.specs.declared.refusal.Refusal.{Refusal}
 use Rattle.pm_cli.specs.declared.refusal.Refusal.TheVariants.{Limited, Map}
 use Rattle.pm_cli.specs.declared.refusal.Stop.{Stop}
@@ -27,3 +29,13 @@ IsMapOfFile bytes limit (Err (Refused refusal)) = RefusesMapFile limit bytes ref
 IsMapOfFile bytes limit (Err Memory) = ⊤
 IsMapOfFile bytes limit (Err Read) = ⊥
 IsMapOfFile bytes limit (Err Write) = ⊥
+
+-- how a run stops where the map isn't of the class
+abbrev pub IsStopOfClass : ClassRefusal → Stop → Type 0
+IsStopOfClass class.Memory stop = stop ≡ Memory
+IsStopOfClass class.Empty stop = stop ≡ Refused (Map Empty)
+IsStopOfClass (class.TooMany edges) stop = stop ≡ Refused (Limited (Edges edges))
+IsStopOfClass (class.Vertex dart) stop = stop ≡ Refused (Map (Vertex dart))
+IsStopOfClass (class.Face dart) stop = stop ≡ Refused (Map (Face dart))
+IsStopOfClass (class.Loop dart) stop = stop ≡ Refused (Map (Loop dart))
+IsStopOfClass (class.Double dart) stop = stop ≡ Refused (Map (Double dart))

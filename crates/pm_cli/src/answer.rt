@@ -1,22 +1,27 @@
 ghost use Rattle.std.specs.Prelude.{◌≤◌, length};
 ghost use Rattle.pm_io.specs.declared.TheConstants.{MAX_BYTES as limit};
 ghost use Rattle.pm_cli.specs.Answering.{IsAnswerOf};
+ghost use Rattle.pm_cli.specs.Commands.{IsCommand};
 
 use crate::canon::canonize;
-use crate::check::check_general;
+use crate::check::{check_general, check_quartic};
 use crate::close::close_eulerian;
 use crate::refusal::Stop;
+use crate::sample::sample_quartic;
 use crate::words::Command;
 use std::alloc::Global;
 
 // What a command answers to a file.
 pub(crate) fn answer(alloc: Global, command: Command, bytes: &[u8]) -> Result<Vec<u8>, Stop>
-    requires { length bytes.now ≤ limit }
+    requires bytes { length bytes.now ≤ limit }
+    requires command { IsCommand command }
     ensures { IsAnswerOf command bytes.now result }
 {
     match command {
         Command::CloseEulerian => close_eulerian(alloc, bytes),
         Command::Canon => canonize(alloc, bytes),
         Command::CheckGeneral => check_general(alloc, bytes),
+        Command::CheckQuartic => check_quartic(alloc, bytes),
+        Command::SampleQuartic { size } => sample_quartic(alloc, size, bytes),
     }
 }

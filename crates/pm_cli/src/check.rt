@@ -1,13 +1,15 @@
 ghost use Rattle.std.specs.Prelude.{◌≤◌, length, IfOk};
 ghost use Rattle.pm_io.specs.declared.TheConstants.{MAX_BYTES as limit};
-ghost use Rattle.pm_cli.specs.declared.words.Command.TheVariants.{CheckGeneral};
+ghost use Rattle.pm_cli.specs.declared.words.Command.TheVariants.{CheckGeneral, CheckQuartic};
 ghost use Rattle.pm_cli.specs.Answering.{IsAnswerOf};
 ghost use Rattle.pm_cli.specs.MapCommands.{IsCountsText};
+ghost use Rattle.pm_cli.specs.MapReading.{IsStopOfClass};
 
 use crate::map_file::map_of_file;
-use crate::refusal::Stop;
+use crate::refusal::{Limit, MapRule, Refusal, Stop};
+use pm_euler::{MapClass, Quartic};
 use pm_limits::MAX_EDGES;
-use pm_map::RootedMap;
+use pm_map::{ClassRefusal, RootedMap};
 use pm_text::put_number;
 use std::alloc::{AllocError, Global};
 
@@ -37,6 +39,43 @@ pub(crate) fn check_general(alloc: Global, bytes: &[u8]) -> Result<Vec<u8>, Stop
         Ok(map) => map,
         Err(stop) => return Err(stop),
     };
+    match counts_text(alloc, &map) {
+        Ok(text) => Ok(text),
+        Err(_) => Err(Stop::Memory),
+    }
+}
+
+// How a run stops where the map isn't of the class.
+fn stop_of_class(refusal: ClassRefusal) -> Stop
+    ensures { IsStopOfClass refusal result }
+{
+    let rule = match refusal {
+        ClassRefusal::Memory => return Stop::Memory,
+        ClassRefusal::TooMany { edges } => {
+            return Stop::Refused(Refusal::Limited(Limit::Edges { edges }));
+        }
+        ClassRefusal::Empty => MapRule::Empty,
+        ClassRefusal::Vertex { dart } => MapRule::Vertex { dart },
+        ClassRefusal::Face { dart } => MapRule::Face { dart },
+        ClassRefusal::Loop { dart } => MapRule::Loop { dart },
+        ClassRefusal::Double { dart } => MapRule::Double { dart },
+    };
+    Stop::Refused(Refusal::Map(rule))
+}
+
+// `check quartic`: the same where each vertex has degree 4.
+pub(crate) fn check_quartic(alloc: Global, bytes: &[u8]) -> Result<Vec<u8>, Stop>
+    requires { length bytes.now ≤ limit }
+    ensures { IsAnswerOf CheckQuartic bytes.now result }
+{
+    let map = match map_of_file(alloc, bytes, MAX_EDGES) {
+        Ok(map) => map,
+        Err(stop) => return Err(stop),
+    };
+    match Quartic::size_of(alloc, &map) {
+        Ok(_size) => {}
+        Err(refusal) => return Err(stop_of_class(refusal)),
+    }
     match counts_text(alloc, &map) {
         Ok(text) => Ok(text),
         Err(_) => Err(Stop::Memory),

@@ -4,11 +4,13 @@
 mod answer;
 mod canon;
 mod check;
+mod choices_file;
 mod close;
 mod engine;
 mod laws;
 mod map_file;
 mod refusal;
+mod sample;
 mod tree_file;
 mod words;
 

@@ -1,6 +1,7 @@
 ghost use Rattle.std.specs.Prelude.{◌≡◌, IfOk, string_bytes};
-ghost use Rattle.pm_cli.specs.Lines.{line, text_of_limit, text_of_map_rule, text_of_rule, text_of_refusal, status_of_refusal, status_of_stop};
+ghost use Rattle.pm_cli.specs.Lines.{line, text_of_limit, text_of_list, text_of_map_rule, text_of_rule, text_of_refusal, status_of_refusal, status_of_stop};
 
+use pm_lists::ListRefusal;
 use std::alloc::{AllocError, Global};
 
 /// A limit that the input passes.
@@ -23,6 +24,16 @@ pub enum MapRule {
     Connected { dart: u32 },
     /// Vertices less edges plus faces, where that isn't 2.
     Euler { number: i64 },
+    /// There is no dart, and the class has no such map.
+    Empty,
+    /// The least dart whose vertex has a degree that the class doesn't have.
+    Vertex { dart: u32 },
+    /// The same of its face.
+    Face { dart: u32 },
+    /// The least dart whose twin is at its own vertex.
+    Loop { dart: u32 },
+    /// The least dart that isn't alone with its vertex and far vertex.
+    Double { dart: u32 },
 }
 
 /// A rule that a tree breaks. Places count from 0, the plant.
@@ -49,6 +60,8 @@ pub enum Refusal {
     Map(MapRule),
     /// A rule that the tree breaks.
     Tree(TreeRule),
+    /// What is wrong with the list, by its bounds.
+    Invalid(ListRefusal),
 }
 
 /// Why a run stopped short of its answer.
@@ -86,6 +99,7 @@ impl Refusal {
             Refusal::Limited(_) => 7,
             Refusal::Map(_) => 6,
             Refusal::Tree(_) => 12,
+            Refusal::Invalid(_) => 4,
         }
     }
 
@@ -99,7 +113,24 @@ impl Refusal {
             Refusal::Limited(limit) => limit.line(alloc),
             Refusal::Map(rule) => rule.line(alloc),
             Refusal::Tree(rule) => rule.line(alloc),
+            Refusal::Invalid(list) => list_line(alloc, list),
         }
+    }
+}
+
+// The line that tells what is wrong with a list.
+fn list_line(alloc: Global, list: ListRefusal) -> Result<String, AllocError>
+    ensures { IfOk result (λ text. string_bytes text ≡ line (text_of_list list)) }
+{
+    match list {
+        ListRefusal::Length { want, have } => {
+            format!(in alloc; "planarmap: list length {want} {have}\n")
+        }
+        ListRefusal::Entry {
+            place,
+            value,
+            bound,
+        } => format!(in alloc; "planarmap: list entry {place} {value} {bound}\n"),
     }
 }
 
@@ -127,6 +158,11 @@ impl MapRule {
             }
             MapRule::Connected { dart } => format!(in alloc; "planarmap: map connected {dart}\n"),
             MapRule::Euler { number } => format!(in alloc; "planarmap: map euler {number}\n"),
+            MapRule::Empty => String::from_str(alloc, "planarmap: map empty\n"),
+            MapRule::Vertex { dart } => format!(in alloc; "planarmap: map vertex {dart}\n"),
+            MapRule::Face { dart } => format!(in alloc; "planarmap: map face {dart}\n"),
+            MapRule::Loop { dart } => format!(in alloc; "planarmap: map loop {dart}\n"),
+            MapRule::Double { dart } => format!(in alloc; "planarmap: map double {dart}\n"),
         }
     }
 }

@@ -1,5 +1,8 @@
-ghost use Rattle.std.specs.Prelude.{◌≡◌, ◌↔◌, ◌≤◌, length, map, string_bytes, IsTrue, MatchResult};
-ghost use Rattle.pm_cli.specs.Commands.{HasClass};
+ghost use Rattle.std.specs.Prelude.{◌≡◌, ◌≢◌, ◌↔◌, ℕ, decimal, string_bytes, IsTrue, MatchOption, MatchResult};
+ghost use Rattle.pm_euler.specs.Quartic.{IsQuarticSize};
+
+use pm_euler::{MapClass, Quartic};
+use pm_text::number;
 
 // Whether the word is this text.
 fn is_word(word: &String, text: &str) -> bool
@@ -8,17 +11,22 @@ fn is_word(word: &String, text: &str) -> bool
     word.as_str() == text
 }
 
-// Whether the words are two, the second of which is this class; or how many begin such a pair, where the first does.
-fn of_class(words: &[String], class: &str) -> Result<(), u32>
-    requires { 1 ≤ length words.now }
-    ensures { HasClass (map string_bytes words.now) class.now result }
+// The size of quartic maps that the word spells, where there is one.
+fn quartic_size(word: &String) -> Option<u32>
+    ensures { MatchOption result
+        ((size : ℕ) → IsQuarticSize size → string_bytes word.now ≢ decimal size)
+        (λ size. IsQuarticSize size × (string_bytes word.now ≡ decimal size)) }
 {
-    if words.len() == 1 || !is_word(&words[1], class) {
-        Err(1)
-    } else if words.len() == 2 {
-        Ok(())
+    let Some(value) = number(word.as_bytes()) else {
+        return None;
+    };
+    let Ok(size) = u32::try_from(value) else {
+        return None;
+    };
+    if Quartic::admissible(&size) {
+        Some(size)
     } else {
-        Err(2)
+        None
     }
 }
 
@@ -31,34 +39,105 @@ pub enum Command {
     Canon,
     /// `check general`: counts the vertices, edges and faces of a map.
     CheckGeneral,
+    /// `check quartic`: the same of a map whose vertices have degree 4.
+    CheckQuartic,
+    /// `sample quartic SIZE`: answers the quartic map and the residue of a list of choices.
+    SampleQuartic { size: u32 },
 }
 
 impl Command {
-    ghost use Rattle.std.specs.Prelude.{map, string_bytes};
-    ghost use Rattle.pm_cli.specs.Commands.{spelling, IsNoCommand};
+    ghost use Rattle.std.specs.Prelude.{◌≡◌, [], ◌∷◌, take, codes, map, string_bytes};
+    ghost use Rattle.pm_cli.specs.Commands.{Spells, IsNoCommand};
 
     // The command that the words spell, or how many of them begin one.
     pub(crate) fn of_words(words: &[String]) -> Result<Command, u32>
-        ensures { MatchResult result (λ command. map string_bytes words.now ≡ spelling command) (IsNoCommand (map string_bytes words.now)) }
+        ensures { MatchResult result (Spells (map string_bytes words.now)) (IsNoCommand (map string_bytes words.now)) }
     {
         if words.is_empty() {
             return Err(0);
         }
         if is_word(&words[0], "close") {
-            of_class(words, "eulerian")?;
-            return Ok(Command::CloseEulerian);
+            return Command::of_close(words);
+        }
+        if is_word(&words[0], "canon") {
+            return Command::of_canon(words);
         }
         if is_word(&words[0], "check") {
-            of_class(words, "general")?;
-            return Ok(Command::CheckGeneral);
+            return Command::of_check(words);
         }
-        if !is_word(&words[0], "canon") {
-            return Err(0);
+        if is_word(&words[0], "sample") {
+            return Command::of_sample(words);
         }
+        Err(0)
+    }
+
+    // The same of words that begin with `close`.
+    fn of_close(words: &[String]) -> Result<Command, u32>
+        requires { take 1 (map string_bytes words.now) ≡ codes "close" ∷ [] }
+        ensures { MatchResult result (Spells (map string_bytes words.now)) (IsNoCommand (map string_bytes words.now)) }
+    {
+        if words.len() == 1 || !is_word(&words[1], "eulerian") {
+            return Err(1);
+        }
+        if words.len() == 2 {
+            Ok(Command::CloseEulerian)
+        } else {
+            Err(2)
+        }
+    }
+
+    // The same of words that begin with `canon`.
+    fn of_canon(words: &[String]) -> Result<Command, u32>
+        requires { take 1 (map string_bytes words.now) ≡ codes "canon" ∷ [] }
+        ensures { MatchResult result (Spells (map string_bytes words.now)) (IsNoCommand (map string_bytes words.now)) }
+    {
         if words.len() == 1 {
             Ok(Command::Canon)
         } else {
             Err(1)
+        }
+    }
+
+    // The same of words that begin with `check`.
+    fn of_check(words: &[String]) -> Result<Command, u32>
+        requires { take 1 (map string_bytes words.now) ≡ codes "check" ∷ [] }
+        ensures { MatchResult result (Spells (map string_bytes words.now)) (IsNoCommand (map string_bytes words.now)) }
+    {
+        if words.len() == 1 {
+            return Err(1);
+        }
+        let command = if is_word(&words[1], "general") {
+            Command::CheckGeneral
+        } else if is_word(&words[1], "quartic") {
+            Command::CheckQuartic
+        } else {
+            return Err(1);
+        };
+        if words.len() == 2 {
+            Ok(command)
+        } else {
+            Err(2)
+        }
+    }
+
+    // The same of words that begin with `sample`.
+    fn of_sample(words: &[String]) -> Result<Command, u32>
+        requires { take 1 (map string_bytes words.now) ≡ codes "sample" ∷ [] }
+        ensures { MatchResult result (Spells (map string_bytes words.now)) (IsNoCommand (map string_bytes words.now)) }
+    {
+        if words.len() == 1 || !is_word(&words[1], "quartic") {
+            return Err(1);
+        }
+        if words.len() == 2 {
+            return Err(2);
+        }
+        let Some(size) = quartic_size(&words[2]) else {
+            return Err(2);
+        };
+        if words.len() == 3 {
+            Ok(Command::SampleQuartic { size })
+        } else {
+            Err(3)
         }
     }
 }

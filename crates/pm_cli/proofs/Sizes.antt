@@ -1,0 +1,24 @@
+-- The words that spell the size of a class.
+use Rattle.std.proofs.Common.{◌≡◌, ℕ, ◌<◌, ◌^◌, List, sym, ◌∙◌, arith}
+use Rattle.std.specs.Prelude.{decimal}
+use Rattle.std.proofs.lemmas.Fmt.{decimal_injective}
+use Rattle.pm_text.specs.Numeral.{IsNumber}
+use Rattle.pm_text.proofs.NumeralLemmas.{has_one_spelling}
+use Rattle.pm_euler.specs.Quartic.{IsQuarticSize}
+
+-- a size has 64 bits
+size_fits : (size : ℕ) → IsQuarticSize size → size < 2 ^ 64
+size_fits size is = let few = is.few in omega arith
+
+-- a word that spells no number spells no size
+pub spells_no_size : (word : List ℕ) → ((value : ℕ) → IsNumber word value → ⊥) → (size : ℕ) → IsQuarticSize size → word ≡ decimal size → ⊥
+spells_no_size word none size is e = none size ((has_one_spelling word size).1 (size_fits size is, e))
+
+-- the number that a word spells is the size that it spells
+pub spelled_size : (word : List ℕ) (value size : ℕ) → IsNumber word value → IsQuarticSize size → word ≡ decimal size → value ≡ size
+spelled_size word value size number is e =
+    let spelled = (has_one_spelling word value).0 number in
+    decimal_injective value size spelled.0 (size_fits size is) (sym spelled.1 ∙ e)
+
+pub spelled : (word : List ℕ) (value : ℕ) → IsNumber word value → word ≡ decimal value
+spelled word value number = ((has_one_spelling word value).0 number).1

@@ -1,0 +1,56 @@
+ghost use Rattle.std.specs.Prelude.{◌≡◌, ◌≤◌, length, MatchOption};
+ghost use Rattle.pm_io.specs.declared.TheConstants.{MAX_BYTES as limit};
+ghost use Rattle.pm_text.specs.Broken.{IsBrokenLine};
+ghost use Rattle.pm_cli.specs.Sampling.{IsChoicesFile};
+ghost use Rattle.pm_cli.specs.ChoicesFile.{IsOnlyLine, IsChoicesAnswer};
+
+use crate::refusal::{Refusal, Stop};
+use pm_lists::{ListTextRefusal, NumList, read_list};
+use pm_text::Lines;
+use std::alloc::Global;
+
+// The first line of a file of choices.
+#[derive(Clone, Copy)]
+struct FirstLine<'a> {
+    text: &'a [u8],
+    // Whether nothing follows the line.
+    is_alone: bool,
+}
+
+// The first line, or `None` where there is none that is ended.
+fn first_line(bytes: &[u8]) -> Option<FirstLine<'_>>
+    ensures { MatchOption result
+        (IsBrokenLine IsChoicesFile bytes.now 1)
+        (λ line. IsOnlyLine bytes.now line.text.now line.is_alone) }
+{
+    let mut lines = Lines::new(bytes);
+    let line = lines.next()?;
+    if !line.ended {
+        return None;
+    }
+    Some(FirstLine {
+        text: line.text,
+        is_alone: lines.next().is_none(),
+    })
+}
+
+/// Reads the choices of a file of choices.
+pub(crate) fn read_choices(alloc: Global, bytes: &[u8]) -> Result<NumList, Stop>
+    requires { length bytes.now ≤ limit }
+    ensures { IsChoicesAnswer bytes.now result }
+{
+    let Some(line) = first_line(bytes) else {
+        return Err(Stop::Refused(Refusal::Text { line: 1 }));
+    };
+    match read_list(alloc, b"choices", line.text) {
+        Ok(choices) => {
+            if line.is_alone {
+                Ok(choices)
+            } else {
+                Err(Stop::Refused(Refusal::Text { line: 2 }))
+            }
+        }
+        Err(ListTextRefusal::Memory) => Err(Stop::Memory),
+        Err(ListTextRefusal::Text) => Err(Stop::Refused(Refusal::Text { line: 1 })),
+    }
+}

@@ -1,0 +1,46 @@
+ghost use Rattle.std.specs.Prelude.{◌≤◌, length, IfOk};
+ghost use Rattle.pm_io.specs.declared.TheConstants.{MAX_BYTES as limit};
+ghost use Rattle.pm_euler.specs.Quartic.{IsQuarticSize};
+ghost use Rattle.pm_cli.specs.declared.words.Command.TheVariants.{SampleQuartic};
+ghost use Rattle.pm_cli.specs.Answering.{IsAnswerOf};
+ghost use Rattle.pm_cli.specs.Sampling.{IsTextOfSample};
+
+use crate::choices_file::read_choices;
+use crate::refusal::{Refusal, Stop};
+use pm_euler::{MapClass, Quartic, Sample, SampleRefusal};
+use pm_lists::put_list;
+use pm_mapfile::put_map;
+use std::alloc::{AllocError, Global};
+
+// The text of the map, and the line of the residue.
+fn sample_text(alloc: Global, sample: &Sample) -> Result<Vec<u8>, AllocError>
+    ensures { IfOk result (λ text. IsTextOfSample sample.now.map sample.now.residue text.items) }
+{
+    let mut text = Vec::new(alloc);
+    put_map(alloc, &sample.map, &mut text)?;
+    put_list(alloc, b"residue", &sample.residue, &mut text)?;
+    Ok(text)
+}
+
+// `sample quartic SIZE`: the text of the map and the residue that the choices in the file give.
+pub(crate) fn sample_quartic(alloc: Global, size: u32, bytes: &[u8]) -> Result<Vec<u8>, Stop>
+    requires bytes { length bytes.now ≤ limit }
+    requires size { IsQuarticSize size }
+    ensures { IsAnswerOf (SampleQuartic size) bytes.now result }
+{
+    let choices = match read_choices(alloc, bytes) {
+        Ok(choices) => choices,
+        Err(stop) => return Err(stop),
+    };
+    let sample = match Quartic::sample(alloc, &size, choices.values()) {
+        Ok(sample) => sample,
+        Err(SampleRefusal::Memory) => return Err(Stop::Memory),
+        Err(SampleRefusal::List(refusal)) => {
+            return Err(Stop::Refused(Refusal::Invalid(refusal)));
+        }
+    };
+    match sample_text(alloc, &sample) {
+        Ok(text) => Ok(text),
+        Err(_) => Err(Stop::Memory),
+    }
+}
