@@ -1,12 +1,12 @@
 -- Files of choices are files of one line, and spell one list.
-use Rattle.std.proofs.Common.{◌≡◌, ◌≢◌, ℕ, ◌<◌, ◌≤◌, Bool, true, false, List, [], ◌∷◌, ◌++◌, refl, sym, ap, ◌∙◌, subst}
+use Rattle.std.proofs.Common.{◌≡◌, ◌≢◌, ℕ, ◌^◌, ◌<◌, Bool, true, false, List, [], ◌∷◌, ◌++◌, refl, sym, ap, ◌∙◌, subst}
 use Rattle.std.specs.Prelude.{codes}
 use Rattle.std.proofs.lemmas.List.{append_cancel_right}
 use Rattle.std.proofs.lemmas.List.Elements.{All-nil}
-use Rattle.pm_text.specs.Broken.{newline, HasNoNewline, IsOneLineForm, IsBrokenLine}
+use Rattle.pm_text.specs.Broken.{newline, IsOneLineForm, IsBrokenLine}
 use Rattle.pm_text.specs.Reading.{Reading, IsNextLine, reading_of}
 use Rattle.pm_text.proofs.ReaderLemmas.{one_line_missing, one_line_unfinished, one_line_invalid, one_line_followed, one_line_whole}
-use Rattle.pm_lists.specs.ListLine.{AreWords, SpellsList, list_line}
+use Rattle.pm_lists.specs.ListLine.{SpellsList, list_line}
 use Rattle.pm_lists.proofs.SpellingLemmas.{tag_parts, has_one_line, spells_one_list, line_is_read_again, line_has_no_newline}
 use Rattle.pm_cli.specs.Sampling.{IsChoicesLine, IsChoicesFile}
 use Rattle.pm_cli.specs.ChoicesFile.{IsOnlyLine}

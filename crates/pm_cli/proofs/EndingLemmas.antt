@@ -1,9 +1,8 @@
 -- How a run ends, from how its steps ended.
-use Rattle.std.proofs.Common.{◌≡◌, ◌≢◌, ℕ, ◌<◌, ◌≤◌, ◌⊎◌, inl, inr, Bool, true, false, List, [], length, take, refl, sym, ap, ◌∙◌, subst, arith}
+use Rattle.std.proofs.Common.{◌≡◌, ◌≢◌, ℕ, inl, inr, true, false, List, length, take, refl, sym, ap, ◌∙◌, subst}
 use Rattle.std.specs.Prelude.{Option, Some, Result, Ok, Err, Vec}
 use Rattle.std.specs.declared.alloc.Global.{Global}
 use Rattle.std.proofs.Math.Seq.{take-length}
-use Rattle.pm_io.specs.declared.TheConstants.{MAX_BYTES}
 use Rattle.pm_io.specs.Bytes.{added}
 use Rattle.pm_io.specs.Faults.{FaultsRose}
 use Rattle.pm_cli.specs.declared.words.Command.{Command}
@@ -17,7 +16,7 @@ use Rattle.pm_cli.specs.Commands.{Spells, reads, IsNoCommand}
 use Rattle.pm_cli.specs.Answer.{Answers, no_command, too_long, of_file, CommandAnswers}
 use Rattle.pm_cli.specs.Answering.{IsAnswerOf}
 use Rattle.pm_cli.specs.Lines.{status_of_stop}
-use Rattle.pm_cli.specs.Ending.{IsInput, Ends, EndsBy, HasRead, IsOverLimit, IsReading, IsWriting, IsToldFor}
+use Rattle.pm_cli.specs.Ending.{IsInput, Ends, EndsBy, HasRead, IsReading, IsWriting, IsToldFor}
 
 -- a flush that failed after a whole write: the whole text is the front that was added
 pub flush_failed : (text : List ℕ) (old mid new : Option (List ℕ)) (faults_old faults_mid faults_new : ℕ)

@@ -1,6 +1,6 @@
 -- How the commands that read a map file stop.
-use Rattle.std.proofs.Common.{◌≡◌, ℕ, List, sym, subst}
-use Rattle.std.specs.Prelude.{Option, Result, Ok, Err}
+use Rattle.std.proofs.Common.{ℕ, List, sym, subst}
+use Rattle.std.specs.Prelude.{Err}
 use Rattle.pm_map.specs.declared.refusal.MapRefusal.{MapRefusal}
 use Rattle.pm_map.specs.declared.refusal.MapRefusal.TheVariants.{Memory as MemoryOfMap, TooMany, NotPermutation, NotConnected, Genus}
 use Rattle.pm_cli.specs.declared.words.Command.{Command}

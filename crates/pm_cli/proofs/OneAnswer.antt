@@ -1,5 +1,5 @@
 -- Words and bytes have one answer.
-use Rattle.std.proofs.Common.{◌≡◌, ◌≢◌, ℕ, ◌<◌, ◌≤◌, ◌⊎◌, inl, inr, true, false, List, ◌++◌, ◌∷◌, [], length, refl, sym, ap, ◌∙◌, subst, arith}
+use Rattle.std.proofs.Common.{◌≡◌, ℕ, ◌⊎◌, inl, inr, List, ◌++◌, ◌∷◌, [], length, refl, sym, ap, ◌∙◌, subst, arith}
 use Rattle.std.proofs.lemmas.Bool.{cases_order}
 use Rattle.std.proofs.lemmas.Fmt.{decimal_injective}
 use Rattle.std.proofs.Common.{ap₂}
@@ -18,9 +18,7 @@ use Rattle.pm_trees.specs.declared.tree.TreeRefusal.TheVariants as rule
 use Rattle.pm_trees.specs.Word.{contour}
 use Rattle.pm_trees.specs.Reading.{IsAnswer}
 use Rattle.pm_trees.proofs.Unique.{one_answer}
-use Rattle.pm_match.specs.Pair.{IsPair}
 use Rattle.pm_match.proofs.Meeting.{pair_unique_leaf}
-use Rattle.pm_map.specs.Structure.{Structure}
 use Rattle.pm_map.specs.declared.refusal.MapRefusal.TheVariants as made
 use Rattle.pm_map.specs.Rotation.{RotationSystem, structure_of, IsRootedMap}
 use Rattle.pm_map.specs.declared.admitted.Degrees.TheVariants.{Exactly}
@@ -38,23 +36,21 @@ use Rattle.pm_close.proofs.RootedClosure.{one_closure}
 use Rattle.pm_close.proofs.PlaneMap.{rooted_closure}
 use Rattle.pm_cli.specs.declared.words.Command.{Command}
 use Rattle.pm_cli.specs.declared.words.Command.TheVariants.{CloseEulerian, Canon, CheckGeneral, CheckQuartic, SampleQuartic}
-use Rattle.pm_cli.specs.declared.refusal.Limit.{Limit}
 use Rattle.pm_cli.specs.declared.refusal.Limit.TheVariants.{Bytes, Letters, Edges}
-use Rattle.pm_cli.specs.declared.refusal.MapRule.{MapRule}
 use Rattle.pm_cli.specs.declared.refusal.MapRule.TheVariants.{Permutation, Connected, Euler, Empty, Vertex, Face, Loop, Double}
-use Rattle.pm_cli.specs.declared.refusal.TreeRule.{TreeRule}
 use Rattle.pm_cli.specs.declared.refusal.TreeRule.TheVariants.{Degree, Buds, Matched}
 use Rattle.pm_cli.specs.declared.refusal.Refusal.{Refusal}
 use Rattle.pm_cli.specs.declared.refusal.Refusal.TheVariants.{Usage, Text, Limited, Map, Tree, Invalid}
-use Rattle.pm_cli.specs.TreeFile.{IsTreeLine, IsTreeFile, HasWord}
+use Rattle.pm_cli.specs.TreeFile.{IsTreeLine, IsTreeFile}
 use Rattle.pm_cli.specs.Closing.{ClosesTo, IsMatchedPlant, ClosesEulerian}
 use Rattle.pm_cli.specs.MapCommands.{HasMap, RefusesMapFile, AnswersMapFile, HasCanonicalText, IsCountsText, IsCountedIn, ChecksQuartic}
 use Rattle.pm_cli.specs.Sampling.{IsChoicesFile, HasChoices, IsSampleText, Samples}
 use Rattle.pm_cli.proofs.ChoicesLines.{one_choices}
 use Rattle.pm_euler.specs.Bounds.{quartic_choices}
 use Rattle.pm_euler.specs.Quartic.{IsQuarticSize, SamplesQuartic}
-use Rattle.pm_cli.specs.Commands.{spelling, IsCommand, Spells, IsNoCommand}
-use Rattle.pm_cli.specs.Answer.{Answers, no_command, too_long, of_file, CommandAnswers}
+use Rattle.pm_euler.proofs.OneSample.{one_quartic_sample}
+use Rattle.pm_cli.specs.Commands.{spelling, IsCommand, IsNoCommand}
+use Rattle.pm_cli.specs.Answer.{no_command, too_long, of_file, CommandAnswers}
 use Rattle.pm_cli.specs.Laws.{HasOneAnswer}
 use Rattle.pm_cli.proofs.TreeLines.{one_word}
 
@@ -283,9 +279,10 @@ not_both limit Q bytes refusal x y =
 
 -- it makes one map, a rooted one
 one_map : (limit : ℕ) (Q R : RotationSystem → Type 0) (bytes : List ℕ) (x : HasMap bytes limit Q) (y : HasMap bytes limit R) → (x.map ≡ y.map) × IsRootedMap y.map
-one_map limit Q R bytes x y =
-    (same_map x.map y.map x.residue y.residue (one_file_answer bytes limit (Ok (x.map, x.residue)) (Ok (y.map, y.residue)) x.answered y.answered (λ e. cc) (λ e. cc)),
-    rooted_map bytes limit y.residue y.map y.answered)
+one_map limit Q R bytes x y = (
+  same_map x.map y.map x.residue y.residue (one_file_answer bytes limit (Ok (x.map, x.residue)) (Ok (y.map, y.residue)) x.answered y.answered (λ e. cc) (λ e. cc)),
+  rooted_map bytes limit y.residue y.map y.answered,
+)
 
 -- and is refused for one reason
 one_refusal_of_map : (limit : ℕ) (bytes : List ℕ) (a b : Refusal) → RefusesMapFile limit bytes a → RefusesMapFile limit bytes b → a ≡ b
@@ -477,6 +474,17 @@ module _ (bounds : List ℕ) (samples : List ℕ → RotationSystem → List ℕ
   samples_once bytes (Err (Tree broken)) b x y = absurd x
   samples_once bytes (Err (Usage matched)) b x y = absurd x
 
+-- the first letter of the second word
+initial : List (List ℕ) → ℕ
+initial [] = 0
+initial (w ∷ []) = 0
+initial (w ∷ ([] ∷ ws)) = 0
+initial (w ∷ ((x ∷ xs) ∷ ws)) = x
+
+apart : spelling CheckGeneral ≡ spelling CheckQuartic → ⊥
+unfolding initial
+apart same = let e = ap initial same in omega (arith, e)
+
 -- words are those of one command
 one_command : (command other : Command) → IsCommand command → IsCommand other → spelling command ≡ spelling other → command ≡ other
 one_command CloseEulerian CloseEulerian is other same = refl
@@ -499,11 +507,11 @@ one_command Canon CheckQuartic is other same = cc
 one_command Canon (SampleQuartic other_size) is other same = cc
 one_command CheckGeneral CloseEulerian is other same = cc
 one_command CheckGeneral Canon is other same = cc
-one_command CheckGeneral CheckQuartic is other same = cc
+one_command CheckGeneral CheckQuartic is other same = absurd (apart same)
 one_command CheckGeneral (SampleQuartic other_size) is other same = cc
 one_command CheckQuartic CloseEulerian is other same = cc
 one_command CheckQuartic Canon is other same = cc
-one_command CheckQuartic CheckGeneral is other same = cc
+one_command CheckQuartic CheckGeneral is other same = absurd (apart (sym same))
 one_command CheckQuartic (SampleQuartic other_size) is other same = cc
 one_command (SampleQuartic size) CloseEulerian is other same = cc
 one_command (SampleQuartic size) Canon is other same = cc
@@ -511,12 +519,12 @@ one_command (SampleQuartic size) CheckGeneral is other same = cc
 one_command (SampleQuartic size) CheckQuartic is other same = cc
 
 -- a command has one answer to a file
-answers_once : (command : Command) (bytes : List ℕ) (a b : Result (List ℕ) Refusal) → CommandAnswers command bytes a → CommandAnswers command bytes b → a ≡ b
-answers_once CloseEulerian bytes a b x y = closes_once bytes a b x y
-answers_once Canon bytes a b x y = map_answers_once MAX_EDGES HasCanonicalText one_canonical_text bytes a b x y
-answers_once CheckGeneral bytes a b x y = map_answers_once (MAX_EDGES / 2) IsCountsText one_counts_text bytes a b x y
-answers_once CheckQuartic bytes a b x y = quartic_once bytes a b x y
-answers_once (SampleQuartic size) bytes a b x y = samples_once (quartic_choices size) (SamplesQuartic size) (λ choices m n r q h k. one_sample size choices m n r q h k) (λ choices m r h. h.valid) bytes a b x y
+answers_once : (command : Command) → IsCommand command → (bytes : List ℕ) (a b : Result (List ℕ) Refusal) → CommandAnswers command bytes a → CommandAnswers command bytes b → a ≡ b
+answers_once CloseEulerian is bytes a b x y = closes_once bytes a b x y
+answers_once Canon is bytes a b x y = map_answers_once MAX_EDGES HasCanonicalText one_canonical_text bytes a b x y
+answers_once CheckGeneral is bytes a b x y = map_answers_once (MAX_EDGES / 2) IsCountsText one_counts_text bytes a b x y
+answers_once CheckQuartic is bytes a b x y = quartic_once bytes a b x y
+answers_once (SampleQuartic size) is bytes a b x y = samples_once (quartic_choices size) (SamplesQuartic size) (one_quartic_sample size is) (λ choices m r h. h.valid) bytes a b x y
 
 pub has_one_answer : HasOneAnswer
 has_one_answer words bytes one other (no_command k none) (no_command j none') =
@@ -532,4 +540,4 @@ has_one_answer words bytes one other (too_long command spells _ long) (of_file c
 has_one_answer words bytes one other (of_file command' spells' _ short _ _) (too_long command spells _ long) = absurd (omega arith)
 has_one_answer words bytes one other (of_file command spells _ _ a x) (of_file command' spells' _ _ b y) =
     let same : command' ≡ command = one_command command' command spells'.is_command spells.is_command (sym spells'.same ∙ spells.same) in
-    answers_once command bytes a b x (subst (λ (c : Command). CommandAnswers c bytes b) same y)
+    answers_once command spells.is_command bytes a b x (subst (λ (c : Command). CommandAnswers c bytes b) same y)

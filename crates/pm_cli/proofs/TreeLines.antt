@@ -1,18 +1,18 @@
 -- Tree files are files of one line, and spell one word.
-use Rattle.std.proofs.Common.{◌≡◌, ◌≢◌, ℕ, zero, suc, ◌<◌, ◌≤◌, Bool, true, false, List, [], ◌∷◌, ◌++◌, length, get_or, take, refl, sym, ap, ◌∙◌, subst, ◌⊎◌, inl, inr, append_assoc, length-append, arith}
-use Rattle.std.specs.Prelude.{codes, All, IsTrue}
-use Rattle.std.proofs.lemmas.List.{append_cancel_left, append_cancel_right, append-nil}
+use Rattle.std.proofs.Common.{◌≡◌, ◌≢◌, ℕ, zero, suc, ◌<◌, ◌≤◌, Bool, true, false, List, [], ◌∷◌, ◌++◌, length, get_or, take, refl, sym, ap, ◌∙◌, subst, length-append, arith}
+use Rattle.std.specs.Prelude.{codes, IsTrue}
+use Rattle.std.proofs.lemmas.List.{append_cancel_left, append_cancel_right}
 use Rattle.std.proofs.lemmas.List.Elements.{All-get_or, All-from_get_or, All-nil, All-cons}
-use Rattle.pm_text.specs.Broken.{newline, HasNoNewline, IsOneLine, IsOneLineForm, IsBrokenLine}
+use Rattle.pm_text.specs.Broken.{newline, HasNoNewline, IsOneLineForm, IsBrokenLine}
 use Rattle.pm_text.specs.Reading.{Reading, IsNextLine, reading_of}
 use Rattle.pm_text.proofs.LineLemmas.{HasNoNewline-nil, HasNoNewline-cons, HasNoNewline-append}
 use Rattle.pm_text.proofs.ReaderLemmas.{one_line_missing, one_line_unfinished, one_line_invalid, one_line_followed, one_line_whole}
 use Rattle.pm_trees.specs.declared.letters.TheConstants.{LEAF, BUD, OPEN, CLOSE}
 use Rattle.pm_trees.specs.First.{IsFirst}
-use Rattle.pm_trees.specs.Word.{IsInOrder, IsMatched, IsFault, is_letter, count, contour}
+use Rattle.pm_trees.specs.Word.{IsInOrder, IsFault, is_letter, count, contour}
 use Rattle.pm_trees.proofs.Stack.{no_fault}
-use Rattle.pm_trees.proofs.Tally.{IsOneOf, letter_cases, a_leaf, a_bud, an_open, a_close}
-use Rattle.pm_cli.specs.TreeFile.{IsTreeLine, IsTreeFile, IsTreeLineOf}
+use Rattle.pm_trees.proofs.Tally.{letter_cases, a_leaf, a_bud, an_open, a_close}
+use Rattle.pm_cli.specs.TreeFile.{IsTreeFile, IsTreeLineOf}
 
 -- a letter is no newline
 letter_no_newline : (x : ℕ) → IsTrue (is_letter x) → x ≢ newline

@@ -1,11 +1,11 @@
 -- What the code that reads a file of choices answers.
-use Rattle.std.specs.Prelude.{◌≡◌, ℕ, Bool, true, false, List, [], ◌∷◌, ◌++◌, Result, Ok, Err, ⊤, codes}
-use Rattle.pm_text.specs.Broken.{newline, IsBrokenLine}
+use Rattle.std.specs.Prelude.{◌≡◌, ℕ, Bool, true, false, List, Result, Ok, Err, ⊤, codes}
+use Rattle.pm_text.specs.Broken.{IsBrokenLine}
 use Rattle.pm_lists.specs.ListLine.{SpellsList}
 use Rattle.pm_lists.specs.declared.num_list.NumList.{NumList}
 use Rattle.pm_cli.specs.declared.refusal.Refusal.TheVariants.{Text}
 use Rattle.pm_cli.specs.declared.refusal.Stop.{Stop}
-use Rattle.pm_cli.specs.declared.refusal.Stop.TheVariants.{Refused, Read, Write, Memory}
+use Rattle.pm_cli.specs.declared.refusal.Stop.TheVariants.{Refused, Memory}
 use Rattle.pm_cli.specs.Sampling.{IsChoicesLine, IsChoicesFile}
 
 -- The first line of a file, without its newline, and whether nothing follows. Where it spells choices and nothing

@@ -11,7 +11,7 @@ use Rattle.pm_cli.specs.declared.refusal.Stop.{Stop}
 use Rattle.pm_cli.specs.declared.refusal.Stop.TheVariants.{Refused, Read, Write, Memory}
 use Rattle.pm_cli.specs.Commands.{Spells, reads}
 use Rattle.pm_cli.specs.Answer.{Answers}
-use Rattle.pm_cli.specs.Lines.{status_of, line_of}
+use Rattle.pm_cli.specs.Lines.{line_of}
 
 -- the words are no command that reads
 abbrev pub ReadNothing : List (List ℕ) → Type 0

@@ -8,7 +8,6 @@ use Rattle.pm_map.specs.declared.class_refusal.ClassRefusal.TheVariants as class
 use Rattle.pm_mapfile.specs.Answers.{AnswersFile}
 use Rattle.pm_cli.specs.declared.refusal.Limit.TheVariants.{Edges}
 use Rattle.pm_cli.specs.declared.refusal.MapRule.TheVariants.{Permutation, Connected, Euler, Empty, Vertex, Face, Loop, Double}
-use Rattle.pm_cli.specs.declared.refusal.Refusal.{Refusal}
 use Rattle.pm_cli.specs.declared.refusal.Refusal.TheVariants.{Limited, Map}
 use Rattle.pm_cli.specs.declared.refusal.Stop.{Stop}
 use Rattle.pm_cli.specs.declared.refusal.Stop.TheVariants.{Refused, Read, Write, Memory}

@@ -5,11 +5,11 @@ use Rattle.pm_trees.specs.declared.tree.Tree.{Tree}
 use Rattle.pm_trees.specs.Word.{IsInOrder}
 use Rattle.pm_trees.specs.Blossoming.{IsBlossoming}
 use Rattle.pm_trees.specs.Reading.{IsTooLong, HasBadDegree, HasBadBuds}
-use Rattle.pm_cli.specs.declared.refusal.Limit.TheVariants.{Bytes, Letters}
-use Rattle.pm_cli.specs.declared.refusal.TreeRule.TheVariants.{Degree, Buds, Matched}
-use Rattle.pm_cli.specs.declared.refusal.Refusal.TheVariants.{Usage, Text, Limited, Tree as Ruled}
+use Rattle.pm_cli.specs.declared.refusal.Limit.TheVariants.{Letters}
+use Rattle.pm_cli.specs.declared.refusal.TreeRule.TheVariants.{Degree, Buds}
+use Rattle.pm_cli.specs.declared.refusal.Refusal.TheVariants.{Text, Limited, Tree as Ruled}
 use Rattle.pm_cli.specs.declared.refusal.Stop.{Stop}
-use Rattle.pm_cli.specs.declared.refusal.Stop.TheVariants.{Refused, Read, Write, Memory}
+use Rattle.pm_cli.specs.declared.refusal.Stop.TheVariants.{Refused, Memory}
 
 -- the file that spells the word, which is in order and has a letter
 pub record IsTreeLine (word bytes : List ℕ) : Type 0 where

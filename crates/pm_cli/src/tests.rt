@@ -396,11 +396,31 @@ fn refusals_of_map_files(rt: HostRuntime) -> Result<(), Fail> {
 #[test]
 fn samples_and_checks_quartic_maps(rt: HostRuntime) -> Result<(), Fail> {
     for (line, bytes, want) in [
-        ("sample quartic 1", b"choices 0 2 0\n".as_slice(), b"map 2 0\nv 0 1 2 3\nend\nresidue 2 0 0\n".as_slice()),
-        ("sample quartic 1", b"choices 1 0 1\n".as_slice(), b"map 2 0\nv 0 1 2 3\nend\nresidue 1 1 0\n".as_slice()),
-        ("sample quartic 2", b"choices 0 0 0 0 0\n".as_slice(), b"map 4 0\nv 0 2 4 1\nv 3 5 6 7\nend\nresidue 0 0 1 0\n".as_slice()),
-        ("check quartic", b"map 4 0\nv 0 2 4 1\nv 3 5 6 7\nend\nresidue 0 0 1 0\n".as_slice(), b"ok 2 4 4\n".as_slice()),
-        ("check quartic", b"map 2 0\nv 0 1 2 3\nend\n".as_slice(), b"ok 1 2 3\n".as_slice()),
+        (
+            "sample quartic 1",
+            b"choices 0 2 0\n".as_slice(),
+            b"map 2 0\nv 0 1 2 3\nend\nresidue 2 0 0\n".as_slice(),
+        ),
+        (
+            "sample quartic 1",
+            b"choices 1 0 1\n".as_slice(),
+            b"map 2 0\nv 0 1 2 3\nend\nresidue 1 1 0\n".as_slice(),
+        ),
+        (
+            "sample quartic 2",
+            b"choices 0 0 0 0 0\n".as_slice(),
+            b"map 4 0\nv 0 2 4 1\nv 3 5 6 7\nend\nresidue 0 0 1 0\n".as_slice(),
+        ),
+        (
+            "check quartic",
+            b"map 4 0\nv 0 2 4 1\nv 3 5 6 7\nend\nresidue 0 0 1 0\n".as_slice(),
+            b"ok 2 4 4\n".as_slice(),
+        ),
+        (
+            "check quartic",
+            b"map 2 0\nv 0 1 2 3\nend\n".as_slice(),
+            b"ok 1 2 3\n".as_slice(),
+        ),
     ] {
         let run = run_on(&rt, rt.alloc(), line, bytes, NONE)?;
         assert_eq!(rt; run.status, 0);
@@ -413,26 +433,126 @@ fn samples_and_checks_quartic_maps(rt: HostRuntime) -> Result<(), Fail> {
 #[test]
 fn refusals_of_quartic_maps(rt: HostRuntime) -> Result<(), Fail> {
     for (line, bytes, status, want) in [
-        ("sample", b"".as_slice(), 2, b"planarmap: usage 1\n".as_slice()),
-        ("sample quartic", b"".as_slice(), 2, b"planarmap: usage 2\n".as_slice()),
-        ("sample quartic 0", b"".as_slice(), 2, b"planarmap: usage 2\n".as_slice()),
-        ("sample quartic 2097153", b"".as_slice(), 2, b"planarmap: usage 2\n".as_slice()),
-        ("sample quartic 01", b"".as_slice(), 2, b"planarmap: usage 2\n".as_slice()),
-        ("sample quartic 1 x", b"".as_slice(), 2, b"planarmap: usage 3\n".as_slice()),
-        ("sample general 1", b"".as_slice(), 2, b"planarmap: usage 1\n".as_slice()),
-        ("check quartic 1", b"".as_slice(), 2, b"planarmap: usage 2\n".as_slice()),
-        ("sample quartic 2097152", b"".as_slice(), 3, b"planarmap: text 1\n".as_slice()),
-        ("sample quartic 1", b"choices 2 0 0\n".as_slice(), 4, b"planarmap: list entry 0 2 2\n".as_slice()),
-        ("sample quartic 1", b"choices 0 2\n".as_slice(), 4, b"planarmap: list length 3 2\n".as_slice()),
-        ("sample quartic 1", b"choices\n".as_slice(), 4, b"planarmap: list length 3 0\n".as_slice()),
-        ("sample quartic 1", b"choices 0 0 0 \n".as_slice(), 3, b"planarmap: text 1\n".as_slice()),
-        ("sample quartic 1", b"choices 0 0 0\nx\n".as_slice(), 3, b"planarmap: text 2\n".as_slice()),
-        ("sample quartic 1", b"choices 0 0 0".as_slice(), 3, b"planarmap: text 1\n".as_slice()),
-        ("sample quartic 1", b"choice 0 0 0\n".as_slice(), 3, b"planarmap: text 1\n".as_slice()),
-        ("check quartic", b"map 2 0\nv 0 2 1 3\nend\n".as_slice(), 6, b"planarmap: map euler 0\n".as_slice()),
-        ("check quartic", b"map 4 0\nv 0 1 2 3\nv 4 6 5 7\nend\n".as_slice(), 6, b"planarmap: map connected 4\n".as_slice()),
-        ("check quartic", b"map 1 0\nv 0\nv 1\nend\n".as_slice(), 6, b"planarmap: map vertex 0\n".as_slice()),
-        ("check quartic", b"map 0 0\nend\n".as_slice(), 6, b"planarmap: map empty\n".as_slice()),
+        (
+            "sample",
+            b"".as_slice(),
+            2,
+            b"planarmap: usage 1\n".as_slice(),
+        ),
+        (
+            "sample quartic",
+            b"".as_slice(),
+            2,
+            b"planarmap: usage 2\n".as_slice(),
+        ),
+        (
+            "sample quartic 0",
+            b"".as_slice(),
+            2,
+            b"planarmap: usage 2\n".as_slice(),
+        ),
+        (
+            "sample quartic 2097153",
+            b"".as_slice(),
+            2,
+            b"planarmap: usage 2\n".as_slice(),
+        ),
+        (
+            "sample quartic 01",
+            b"".as_slice(),
+            2,
+            b"planarmap: usage 2\n".as_slice(),
+        ),
+        (
+            "sample quartic 1 x",
+            b"".as_slice(),
+            2,
+            b"planarmap: usage 3\n".as_slice(),
+        ),
+        (
+            "sample general 1",
+            b"".as_slice(),
+            2,
+            b"planarmap: usage 1\n".as_slice(),
+        ),
+        (
+            "check quartic 1",
+            b"".as_slice(),
+            2,
+            b"planarmap: usage 2\n".as_slice(),
+        ),
+        (
+            "sample quartic 2097152",
+            b"".as_slice(),
+            3,
+            b"planarmap: text 1\n".as_slice(),
+        ),
+        (
+            "sample quartic 1",
+            b"choices 2 0 0\n".as_slice(),
+            4,
+            b"planarmap: list entry 0 2 2\n".as_slice(),
+        ),
+        (
+            "sample quartic 1",
+            b"choices 0 2\n".as_slice(),
+            4,
+            b"planarmap: list length 3 2\n".as_slice(),
+        ),
+        (
+            "sample quartic 1",
+            b"choices\n".as_slice(),
+            4,
+            b"planarmap: list length 3 0\n".as_slice(),
+        ),
+        (
+            "sample quartic 1",
+            b"choices 0 0 0 \n".as_slice(),
+            3,
+            b"planarmap: text 1\n".as_slice(),
+        ),
+        (
+            "sample quartic 1",
+            b"choices 0 0 0\nx\n".as_slice(),
+            3,
+            b"planarmap: text 2\n".as_slice(),
+        ),
+        (
+            "sample quartic 1",
+            b"choices 0 0 0".as_slice(),
+            3,
+            b"planarmap: text 1\n".as_slice(),
+        ),
+        (
+            "sample quartic 1",
+            b"choice 0 0 0\n".as_slice(),
+            3,
+            b"planarmap: text 1\n".as_slice(),
+        ),
+        (
+            "check quartic",
+            b"map 2 0\nv 0 2 1 3\nend\n".as_slice(),
+            6,
+            b"planarmap: map euler 0\n".as_slice(),
+        ),
+        (
+            "check quartic",
+            b"map 4 0\nv 0 1 2 3\nv 4 6 5 7\nend\n".as_slice(),
+            6,
+            b"planarmap: map connected 4\n".as_slice(),
+        ),
+        (
+            "check quartic",
+            b"map 1 0\nv 0\nv 1\nend\n".as_slice(),
+            6,
+            b"planarmap: map vertex 0\n".as_slice(),
+        ),
+        (
+            "check quartic",
+            b"map 0 0\nend\n".as_slice(),
+            6,
+            b"planarmap: map empty\n".as_slice(),
+        ),
     ] {
         let run = run_on(&rt, rt.alloc(), line, bytes, NONE)?;
         assert_eq!(rt; run.status, status, "at {line}");

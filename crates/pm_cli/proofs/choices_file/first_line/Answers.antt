@@ -1,4 +1,4 @@
-use Rattle.std.proofs.Common.{◌≡◌, Bool, true, false, List, [], refl, sym, ap, ◌∙◌, arith}
+use Rattle.std.proofs.Common.{refl, sym, ap, ◌∙◌, arith}
 use Rattle.pm_text.specs.Reading.{Reading}
 use Rattle.pm_cli.proofs.ChoicesLines.{no_choices_line, unfinished_choices_line, only_choices_line}
 use Rattle.pm_cli.proofs.choices_file.first_line.Goals as goal

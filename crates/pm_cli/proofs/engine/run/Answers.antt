@@ -1,6 +1,5 @@
-use Rattle.std.proofs.Common.{◌≡◌, ◌≢◌, sym, ap, ◌∙◌, subst}
-use Rattle.std.specs.Prelude.{Result, Err}
-use Rattle.pm_cli.specs.Lines.{status_of_stop}
+use Rattle.std.proofs.Common.{◌∙◌}
+use Rattle.std.specs.Prelude.{Err}
 use Rattle.pm_cli.proofs.EndingLemmas.{ends_told, told_no_write}
 use Rattle.pm_cli.proofs.engine.run.Goals as goal
 

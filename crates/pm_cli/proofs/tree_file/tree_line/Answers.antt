@@ -1,4 +1,4 @@
-use Rattle.std.proofs.Common.{◌≡◌, Bool, true, false, not, List, [], refl, sym, ap, ◌∙◌, arith}
+use Rattle.std.proofs.Common.{refl, sym, ap, ◌∙◌, arith}
 use Rattle.pm_text.specs.Reading.{Reading}
 use Rattle.pm_cli.proofs.TreeLines.{no_tree_line, unfinished_tree_line, untagged_tree_line, tagged_tree_line}
 use Rattle.pm_cli.proofs.tree_file.tree_line.Goals as goal

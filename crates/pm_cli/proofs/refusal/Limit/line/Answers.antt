@@ -1,5 +1,3 @@
-use Rattle.std.proofs.Common.{rules, arith}
-use Rattle.std.proofs.lemmas.Grind.{common_steps}
 use Rattle.pm_cli.proofs.refusal.Limit.line.Goals as goal
 
 pub returns-in-Bytes : goal.returns-in-Bytes

@@ -1,5 +1,5 @@
-use Rattle.std.proofs.Common.{◌≡◌, ℕ, ◌<◌, true, false, List, [], ◌∷◌, take, map, length, IsTrue, refl, sym, ap, ◌∙◌, subst, arith, Global}
-use Rattle.std.specs.Prelude.{codes, decimal, string_bytes, slice_index_or}
+use Rattle.std.proofs.Common.{◌≡◌, ℕ, ◌<◌, false, List, [], ◌∷◌, IsTrue, refl, sym, ap, ◌∙◌, arith}
+use Rattle.std.specs.Prelude.{codes, string_bytes, slice_index_or}
 use Rattle.std.proofs.lemmas.List.{length-map}
 use Rattle.pm_cli.proofs.SampleWords.{sample_alone, sample_class, sample_more, second_word, third_word, no_second, no_third, same_second, same_third, some_word}
 use Rattle.pm_cli.proofs.words.Command.of_sample.Goals as goal
