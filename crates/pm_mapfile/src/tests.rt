@@ -1,5 +1,6 @@
 //! Worked texts.
 use crate::{FileRefusal, put_map, read_map, read_map_file};
+use pm_canon::same;
 use pm_lists::{NumList, put_list};
 use pm_map::{MapRefusal, RootedMap};
 use std::alloc::Global;
@@ -251,4 +252,24 @@ fn texts_of_no_map(rt: HostRuntime) {
         assert_eq!(rt; refusal_of_text(rt.alloc(), bytes, limit), refusal);
         assert_eq!(rt; refusal_of_file(rt.alloc(), bytes, limit), refusal);
     }
+}
+
+// Two texts of one map, in two numberings.
+#[test]
+fn texts_of_the_same_map(rt: HostRuntime) -> Result<(), Fail> {
+    let answer = read_map(rt.alloc(), RENUMBERED, 4);
+    assert!(rt; answer.is_ok());
+    let Ok((one, after)) = answer else {
+        return Ok(())
+    };
+    assert_eq!(rt; after, 32);
+    let canonical = b"map 4 0\nv 0 2 4 1\nv 3 5 6 7\nend\n";
+    let answer = read_map(rt.alloc(), canonical, 4);
+    assert!(rt; answer.is_ok());
+    let Ok((other, after)) = answer else {
+        return Ok(())
+    };
+    assert_eq!(rt; after, 32);
+    assert!(rt; same(rt.alloc(), &one, &other)?);
+    Ok(())
 }
