@@ -1,11 +1,13 @@
 -- Counts of ranks: the rank of an entry is how many entries are smaller than it.
-use Rattle.std.proofs.Common.{◌≡◌, ℕ, zero, suc, ◌+◌, ◌<◌, ◌≤◌, min, List, [], ◌∷◌, length, get_or, map, drop, refl, ap, sym, ◌∙◌, arith, inl, inr}
+use Rattle.std.proofs.Common.{◌≡◌, ℕ, zero, suc, ◌+◌, ◌<◌, ◌≤◌, min, List, [], ◌∷◌, ◌++◌, length, get_or, take, drop, refl, ap, sym, ◌∙◌, arith, inl, inr}
 use Rattle.std.proofs.Math.ListN.{set}
 use Rattle.std.proofs.lemmas.Bool.{cases_lt}
-use Rattle.std.proofs.lemmas.List.{drop_more, drop_all, drop-set, get_or-drop, length-drop, length-map}
+use Rattle.std.proofs.lemmas.List.{drop_more, drop_all, drop-set, get_or-map, length-drop, length-map, map-append, take_more, take_more_set}
+use Rattle.std.proofs.lemmas.List.Elements.{All-from_get_or}
+use Rattle.std.specs.List.{All}
 use Rattle.std.specs.List.Sorted.{IsPermutation}
 use Rattle.std.proofs.lemmas.List.Sorted.{sum_by-IsPermutation}
-use Rattle.pm_lehmer.specs.Lehmer.{count_below, code_of}
+use Rattle.pm_lehmer.specs.Lehmer.{count_below, ranks_among, code_of}
 use Rattle.pm_lehmer.specs.Counted.{start_of, IsCounted, IsOneMore}
 use Rattle.pm_lehmer.proofs.CountBelow.{count_below-nil, count_below-smaller, count_below-other, count_below-le-length, count_below-mono, count_below-stands}
 use Rattle.pm_lehmer.proofs.Arranged.{count_below-zero}
@@ -23,112 +25,140 @@ count_below-split number (suc split) (entry ∷ later) within before from =
     count_below-smaller number entry later (before 0 (omega arith))
     ∙ ap suc (count_below-split number split later (omega arith) (λ place less. before (suc place) (omega arith)) (λ place past inside. from (suc place) (omega arith) (omega arith)))
 
--- the ranks among the entries
-unfoldable pub ranks_of : List ℕ → List ℕ → List ℕ
-ranks_of entries later = map (λ entry. count_below entry entries) later
+ranks_among-cons : (entries : List ℕ) (entry : ℕ) (later : List ℕ) → ranks_among entries (entry ∷ later) ≡ count_below entry entries ∷ ranks_among entries later
+unfolding ranks_among
+ranks_among-cons entries entry later = refl
 
-ranks_of-cons : (entries : List ℕ) (entry : ℕ) (later : List ℕ) → ranks_of entries (entry ∷ later) ≡ count_below entry entries ∷ ranks_of entries later
-unfolding ranks_of
-ranks_of-cons entries entry later = refl
+ranks_among-nil : (entries : List ℕ) → ranks_among entries [] ≡ []
+unfolding ranks_among
+ranks_among-nil entries = refl
 
-ranks_of-nil : (entries : List ℕ) → ranks_of entries [] ≡ []
-unfolding ranks_of
-ranks_of-nil entries = refl
+length-ranks_among : (entries later : List ℕ) → length (ranks_among entries later) ≡ length later
+unfolding ranks_among
+length-ranks_among entries later = length-map later _
 
-length-ranks_of : (entries later : List ℕ) → length (ranks_of entries later) ≡ length later
-unfolding ranks_of
-length-ranks_of entries later = length-map later _
+get_or-ranks_among : (entries later : List ℕ) (place : ℕ) → place < length later → get_or (ranks_among entries later) place 0 ≡ count_below (get_or later place 0) entries
+unfolding ranks_among
+get_or-ranks_among entries later place inside = get_or-map _ later place 0 0 inside
 
--- how many of the later entries have a rank below this one
-unfoldable pub ranks_below : List ℕ → ℕ → ℕ → ℕ
-ranks_below entries place rank = count_below rank (ranks_of entries (drop place entries))
-
-ranks_below-is : (entries : List ℕ) (place rank : ℕ) → ranks_below entries place rank ≡ count_below rank (ranks_of entries (drop place entries))
-unfolding ranks_below
-ranks_below-is entries place rank = refl
+ranks_among-append : (entries front back : List ℕ) → ranks_among entries (front ++ back) ≡ ranks_among entries front ++ ranks_among entries back
+unfolding ranks_among
+ranks_among-append entries front back = map-append _ front back
 
 -- an entry is smaller exactly where its rank is
 count_below-ranks : (entries : List ℕ) (number : ℕ) (later : List ℕ)
     → ((place : ℕ) → place < length later → count_below (get_or later place 0) entries + 1 ≤ count_below (suc (get_or later place 0)) entries)
-    → count_below (count_below number entries) (ranks_of entries later) ≡ count_below number later
-count_below-ranks entries number [] stands = rw ranks_of-nil (count_below-nil (count_below number entries) ∙ sym (count_below-nil number))
+    → count_below (count_below number entries) (ranks_among entries later) ≡ count_below number later
+count_below-ranks entries number [] stands = rw ranks_among-nil (count_below-nil (count_below number entries) ∙ sym (count_below-nil number))
 count_below-ranks entries number (entry ∷ later) stands =
     let rest = count_below-ranks entries number later (λ place inside. stands (suc place) (omega arith)) in
-    let cons = ap (count_below (count_below number entries)) (ranks_of-cons entries entry later) in
+    let cons = ap (count_below (count_below number entries)) (ranks_among-cons entries entry later) in
     elim (cases_lt entry number) [
       | inl less ↦ omega (
         arith,
         cons,
         rest,
         count_below-smaller number entry later less,
-        count_below-smaller (count_below number entries) (count_below entry entries) (ranks_of entries later) (omega (arith, stands 0 (omega arith), count_below-mono (suc entry) number entries (omega arith))),
+        count_below-smaller (count_below number entries) (count_below entry entries) (ranks_among entries later) (omega (arith, stands 0 (omega arith), count_below-mono (suc entry) number entries (omega arith))),
       )
       | inr other ↦ omega (
         arith,
         cons,
         rest,
         count_below-other number entry later other,
-        count_below-other (count_below number entries) (count_below entry entries) (ranks_of entries later) (count_below-mono number entry entries other),
+        count_below-other (count_below number entries) (count_below entry entries) (ranks_among entries later) (count_below-mono number entry entries other),
       )
     ]
 
--- the code of the entries from the place on is written, and their ranks are counted
-pub record IsCodedFrom (entries counts code : List ℕ) (place : ℕ) : Type 0 where
-  pub counted : IsCounted counts (ranks_below entries place)
-  pub coded : drop place code ≡ code_of (drop place entries)
+code_of-ranks_among : (entries later : List ℕ)
+    → ((place : ℕ) → place < length later → count_below (get_or later place 0) entries + 1 ≤ count_below (suc (get_or later place 0)) entries)
+    → code_of (ranks_among entries later) ≡ code_of later
+code_of-ranks_among entries [] stands = ap code_of (ranks_among-nil entries)
+code_of-ranks_among entries (entry ∷ later) stands =
+    ap code_of (ranks_among-cons entries entry later)
+    ∙ ap (λ n. n ∷ code_of (ranks_among entries later)) (count_below-ranks entries entry later (λ place inside. stands (suc place) (omega arith)))
+    ∙ ap (λ c. count_below entry later ∷ c) (code_of-ranks_among entries later (λ place inside. stands (suc place) (omega arith)))
 
-pub IsCodedFrom-none : (entries counts code : List ℕ) (place : ℕ) → place ≡ length entries → length code ≡ length entries → ((place : ℕ) → place < length counts → get_or counts place 0 ≡ 0) → IsCodedFrom entries counts code place
-IsCodedFrom-none entries counts code place is same_length zeros =
-    let none : drop place entries ≡ [] = drop_all place entries (omega arith) in
+-- the ranks of the entries have the same code as the entries
+pub code_of-ranks : (entries : List ℕ) → code_of (ranks_among entries entries) ≡ code_of entries
+code_of-ranks entries = code_of-ranks_among entries entries (λ place inside. count_below-stands (get_or entries place 0) place entries inside refl)
+
+pub length-ranks : (entries : List ℕ) → length (ranks_among entries entries) ≡ length entries
+length-ranks entries = length-ranks_among entries entries
+
+-- each rank is below the number of entries
+pub ranks_are_small : (entries : List ℕ) → All (λ rank. rank < length (ranks_among entries entries)) (ranks_among entries entries)
+ranks_are_small entries = All-from_get_or (λ rank. rank < length (ranks_among entries entries)) (ranks_among entries entries) 0 (λ place inside.
+    let placed : place < length entries = omega (arith, length-ranks entries) in
+    omega (
+      arith,
+      length-ranks entries,
+      get_or-ranks_among entries entries place placed,
+      count_below-stands (get_or entries place 0) place entries placed refl,
+      count_below-le-length (suc (get_or entries place 0)) entries,
+    ))
+
+-- a rank fits where the number of entries does
+pub rank_fits : (entry rank : ℕ) (entries : List ℕ) → length entries < 4294967296 → rank ≡ count_below entry entries → rank < 4294967296
+rank_fits entry rank entries few is = omega (arith, count_below-le-length entry entries)
+
+-- no rank is written
+pub ranks_among-none : (entries : List ℕ) → [] ≡ ranks_among entries []
+ranks_among-none entries = sym (ranks_among-nil entries)
+
+-- one rank more is written
+pub ranks_among-more : (entries ranks : List ℕ) (place rank : ℕ) → take place ranks ≡ ranks_among entries (take place entries)
+    → place < length entries → length ranks ≡ length entries → rank ≡ count_below (get_or entries place 0) entries
+    → take (place + 1) (set ranks place rank) ≡ ranks_among entries (take (place + 1) entries)
+ranks_among-more entries ranks place rank written inside same_length is =
+    let one : ranks_among entries (get_or entries place 0 ∷ []) ≡ rank ∷ [] =
+    ranks_among-cons entries (get_or entries place 0) [] ∙ ap (λ r. r ∷ ranks_among entries []) (sym is) ∙ ap (λ rest. rank ∷ rest) (ranks_among-nil entries) in
+    take_more_set ranks place rank (omega arith)
+    ∙ ap (λ front. front ++ rank ∷ []) written
+    ∙ ap (λ back. ranks_among entries (take place entries) ++ back) (sym one)
+    ∙ sym (ranks_among-append entries (take place entries) (get_or entries place 0 ∷ []))
+    ∙ sym (ap (ranks_among entries) (take_more entries place 0 inside))
+
+-- how many of the numbers from the place on are below this one
+abbrev pub later_below : List ℕ → ℕ → ℕ → ℕ
+later_below numbers place number = count_below number (drop place numbers)
+
+-- the code of the numbers from the place on is written, and these numbers are counted
+pub record IsCodedFrom (numbers counts code : List ℕ) (place : ℕ) : Type 0 where
+  pub counted : IsCounted counts (later_below numbers place)
+  pub coded : drop place code ≡ code_of (drop place numbers)
+
+pub IsCodedFrom-none : (numbers counts code : List ℕ) (place : ℕ) → place ≡ length numbers → length code ≡ length numbers → ((place : ℕ) → place < length counts → get_or counts place 0 ≡ 0) → IsCodedFrom numbers counts code place
+IsCodedFrom-none numbers counts code place is same_length zeros =
+    let none : drop place numbers ≡ [] = drop_all place numbers (omega arith) in
     let no_code : drop place code ≡ [] = drop_all place code (omega arith) in
-    let nil : (rank : ℕ) → ranks_below entries place rank ≡ 0 = λ rank. ranks_below-is entries place rank ∙ ap (λ later. count_below rank (ranks_of entries later)) none ∙ ap (count_below rank) (ranks_of-nil entries) ∙ count_below-nil rank in
+    let nil : (number : ℕ) → count_below number (drop place numbers) ≡ 0 = λ number. ap (count_below number) none ∙ count_below-nil number in
     record {
       counted = record { at_middle = λ number positive inside. omega (arith, zeros number inside, nil number, nil (start_of (length counts) number)) };
       coded = no_code ∙ sym (ap code_of none);
     }
 
-rank_in_range : (entries : List ℕ) (place : ℕ) → place < length entries → count_below (get_or entries place 0) entries < length entries
-rank_in_range entries place inside =
-    omega (arith, count_below-stands (get_or entries place 0) place entries inside refl, count_below-le-length (suc (get_or entries place 0)) entries)
-
-pub rank_inside : (entries : List ℕ) (place rank : ℕ) → place < length entries → rank ≡ count_below (get_or entries place 0) entries → rank < length entries
-rank_inside entries place rank inside is = omega (arith, rank_in_range entries place inside)
-
-pub counts_have_room : (entries counts code : List ℕ) (place : ℕ) → IsCodedFrom entries counts code (place + 1) → place < length entries → length entries < 4294967296
+pub counts_have_room : (numbers counts code : List ℕ) (place : ℕ) → IsCodedFrom numbers counts code (place + 1) → place < length numbers → length numbers < 4294967296
     → (number : ℕ) → 0 < number → number < length counts → get_or counts number 0 + 1 < 4294967296
-counts_have_room entries counts code place coded_from inside few number positive number_inside =
-    omega (arith, coded_from.counted.at_middle number positive number_inside, ranks_below-is entries (place + 1) number, count_below-le-length number (ranks_of entries (drop (place + 1) entries)), length-ranks_of entries (drop (place + 1) entries), length-drop (place + 1) entries)
+counts_have_room numbers counts code place coded_from inside few number positive number_inside =
+    omega (arith, coded_from.counted.at_middle number positive number_inside, count_below-le-length number (drop (place + 1) numbers), length-drop (place + 1) numbers)
 
-pub IsCodedFrom-step : (entries counts after code : List ℕ) (place rank smaller : ℕ) → IsCodedFrom entries counts code (place + 1) → place < length entries → length code ≡ length entries
-    → rank ≡ count_below (get_or entries place 0) entries
-    → ((below : ℕ → ℕ) → IsCounted counts below → smaller + below 0 ≡ below rank)
-    → ((below more : ℕ → ℕ) → IsCounted counts below → IsOneMore rank below more → IsCounted after more)
-    → IsCodedFrom entries after (set code place smaller) place
-IsCodedFrom-step entries counts after code place rank smaller coded_from inside same_length is sums counted =
-    let cons : drop place entries ≡ get_or entries place 0 ∷ drop (place + 1) entries = drop_more entries place 0 inside in
-    let ranks : ranks_of entries (drop place entries) ≡ rank ∷ ranks_of entries (drop (place + 1) entries) =
-    ap (ranks_of entries) cons ∙ ranks_of-cons entries (get_or entries place 0) (drop (place + 1) entries) ∙ ap (λ r. r ∷ ranks_of entries (drop (place + 1) entries)) (sym is) in
-    let below_is : (number : ℕ) → ranks_below entries place number ≡ count_below number (rank ∷ ranks_of entries (drop (place + 1) entries)) = λ number. ranks_below-is entries place number ∙ ap (count_below number) ranks in
-    let one : IsOneMore rank (ranks_below entries (place + 1)) (ranks_below entries place) = record {
-      same = λ number low. omega (arith, below_is number, ranks_below-is entries (place + 1) number, count_below-other number rank (ranks_of entries (drop (place + 1) entries)) low);
-      raised = λ number high. omega (arith, below_is number, ranks_below-is entries (place + 1) number, count_below-smaller number rank (ranks_of entries (drop (place + 1) entries)) high);
+pub IsCodedFrom-step : (numbers counts after code : List ℕ) (place smaller : ℕ) → IsCodedFrom numbers counts code (place + 1) → place < length numbers → length code ≡ length numbers
+    → ((below : ℕ → ℕ) → IsCounted counts below → smaller + below 0 ≡ below (get_or numbers place 0))
+    → ((below more : ℕ → ℕ) → IsCounted counts below → IsOneMore (get_or numbers place 0) below more → IsCounted after more)
+    → IsCodedFrom numbers after (set code place smaller) place
+IsCodedFrom-step numbers counts after code place smaller coded_from inside same_length sums counted =
+    let cons : drop place numbers ≡ get_or numbers place 0 ∷ drop (place + 1) numbers = drop_more numbers place 0 inside in
+    let one : IsOneMore (get_or numbers place 0) (later_below numbers (place + 1)) (later_below numbers place) = record {
+      same = λ number low. ap (count_below number) cons ∙ count_below-other number (get_or numbers place 0) (drop (place + 1) numbers) low;
+      raised = λ number high. omega (arith, ap (count_below number) cons, count_below-smaller number (get_or numbers place 0) (drop (place + 1) numbers) high);
     } in
-    let stands : (later : ℕ) → later < length (drop (place + 1) entries) → count_below (get_or (drop (place + 1) entries) later 0) entries + 1 ≤ count_below (suc (get_or (drop (place + 1) entries) later 0)) entries =
-    λ later later_inside. count_below-stands (get_or (drop (place + 1) entries) later 0) (place + 1 + later) entries (omega (arith, length-drop (place + 1) entries)) (sym (get_or-drop (place + 1) entries later 0)) in
-    let smaller_is : smaller ≡ count_below (get_or entries place 0) (drop (place + 1) entries) =
-    omega (
-      arith,
-      sums (ranks_below entries (place + 1)) coded_from.counted,
-      ranks_below-is entries (place + 1) 0,
-      ranks_below-is entries (place + 1) rank,
-      count_below-zero (ranks_of entries (drop (place + 1) entries)),
-      ap (λ r. count_below r (ranks_of entries (drop (place + 1) entries))) is,
-      count_below-ranks entries (get_or entries place 0) (drop (place + 1) entries) stands,
-    ) in
+    let smaller_is : smaller ≡ count_below (get_or numbers place 0) (drop (place + 1) numbers) =
+    omega (arith, sums (later_below numbers (place + 1)) coded_from.counted, count_below-zero (drop (place + 1) numbers)) in
     record {
-      counted = counted (ranks_below entries (place + 1)) (ranks_below entries place) coded_from.counted one;
+      counted = counted (later_below numbers (place + 1)) (later_below numbers place) coded_from.counted one;
       coded = drop-set code place smaller (omega arith) ∙ ap (λ n. n ∷ drop (place + 1) code) smaller_is
-          ∙ ap (λ c. count_below (get_or entries place 0) (drop (place + 1) entries) ∷ c) coded_from.coded ∙ sym (ap code_of cons);
+          ∙ ap (λ c. count_below (get_or numbers place 0) (drop (place + 1) numbers) ∷ c) coded_from.coded ∙ sym (ap code_of cons);
     }
 
 -- the first numbers are counted

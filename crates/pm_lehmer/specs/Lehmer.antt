@@ -1,11 +1,15 @@
 -- The arrangement code of a list, known as its Lehmer code (D. H. Lehmer, Teaching combinatorial tricks to a
 -- computer, 1960): entry k counts the later entries that are smaller than entry k.
-use Rattle.std.specs.Prelude.{◌≡◌, ℕ, ◌+◌, ◌<◌, List, [], ◌∷◌, length, slice_index, count_by, nat_lt}
+use Rattle.std.specs.Prelude.{◌≡◌, ℕ, ◌+◌, ◌<◌, List, [], ◌∷◌, length, map, slice_index, count_by, nat_lt}
 use Rattle.pm_perm.specs.Permutation.{IsPermutationList}
 
 -- how many entries are smaller than the number
 unfoldable pub count_below : ℕ → List ℕ → ℕ
 count_below number entries = count_by (λ entry. nat_lt entry number) entries
+
+-- for each of the later entries how many of all the entries are smaller
+unfoldable pub ranks_among : List ℕ → List ℕ → List ℕ
+ranks_among entries later = map (λ entry. count_below entry entries) later
 
 -- the code of a list
 abbrev pub code_of : List ℕ → List ℕ

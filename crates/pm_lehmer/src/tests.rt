@@ -90,6 +90,17 @@ fn arranges_and_codes(rt: HostRuntime) -> Result<(), Fail> {
 }
 
 #[test]
+fn codes_entries_of_each_size(rt: HostRuntime) -> Result<(), Fail> {
+    let below_length = code(rt.alloc(), &[2, 0, 2, 1, 0])?;
+    assert_eq!(rt; below_length.as_slice(), [3, 0, 2, 1, 0].as_slice());
+    let at_length = code(rt.alloc(), &[3, 1, 0])?;
+    assert_eq!(rt; at_length.as_slice(), [2, 1, 0].as_slice());
+    let above_length = code(rt.alloc(), &[9, 4, 9, 4, 7])?;
+    assert_eq!(rt; above_length.as_slice(), [3, 0, 2, 0, 0].as_slice());
+    Ok(())
+}
+
+#[test]
 fn all_codes_of_six(rt: HostRuntime) -> Result<(), Fail> {
     'codes: for (row, want) in ARRANGEMENTS.iter().enumerate() {
         let c = row as u64;
@@ -120,5 +131,18 @@ fn many_entries(rt: HostRuntime) -> Result<(), Fail> {
     for (want, entry) in entries.iter().zip(arrangement.as_slice()) {
         assert_eq!(rt; want, entry);
     }
+    Ok(())
+}
+
+#[test]
+fn many_wide_entries(rt: HostRuntime) -> Result<(), Fail> {
+    let entries = scattered(rt.alloc())?;
+    let wide: Vec<u32> = entries
+        .iter()
+        .map(|entry| entry.wrapping_mul(40_000))
+        .collect(rt.alloc())?;
+    let coded = code(rt.alloc(), &entries)?;
+    let same = code(rt.alloc(), &wide)?;
+    assert_eq!(rt; same.as_slice(), coded.as_slice());
     Ok(())
 }

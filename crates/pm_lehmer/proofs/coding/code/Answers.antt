@@ -1,13 +1,15 @@
-use Rattle.std.proofs.Common.{◌∙◌, ap}
-use Rattle.std.proofs.lemmas.List.Sorted.{IsNonDecreasingBy-from_sort}
-use Rattle.pm_lehmer.specs.Lehmer.{count_below}
-use Rattle.pm_lehmer.proofs.Ranked.{count_below-IsPermutation}
+use Rattle.std.proofs.Common.{◌≡◌, ◌∙◌, ap}
+use Rattle.pm_lehmer.specs.Lehmer.{ranks_among, code_of}
+use Rattle.pm_lehmer.proofs.Ranked.{code_of-ranks, ranks_are_small}
 use Rattle.pm_lehmer.proofs.coding.code.Goals as goal
 
-pub count_later-requires-clause-sorted : goal.count_later-requires-clause-sorted
-count_later-requires-clause-sorted c =
-    rw c.deref.ensures.value (IsNonDecreasingBy-from_sort (λ x. x) _ c.sort_unstable.ensures.sorted)
+pub code_of_small-requires-2-clause-small : goal.code_of_small-requires-2-clause-small
+code_of_small-requires-2-clause-small c =
+    let are : c.deref.result.now ≡ ranks_among c.args.entries.now c.args.entries.now = c.deref.ensures.value ∙ c.in_ok-ranks.ensures.ranks in
+    rw are (ranks_are_small c.args.entries.now)
 
-pub count_later-requires-clause-ranks : goal.count_later-requires-clause-ranks
-count_later-requires-clause-ranks c = λ number.
-    ap (count_below number) c.deref.ensures.value ∙ count_below-IsPermutation number _ _ c.sort_unstable.ensures.permutation ∙ ap (count_below number) c.in_ok-sorted.ensures.items
+pub returns-clause-code : goal.returns-clause-code
+returns-clause-code c =
+    let are : c.deref.result.now ≡ ranks_among c.args.entries.now c.args.entries.now = c.deref.ensures.value ∙ c.in_ok-ranks.ensures.ranks in
+    let same : code_of c.deref.result.now ≡ code_of c.args.entries.now = ap code_of are ∙ code_of-ranks c.args.entries.now in
+    rw same at c.code_of_small-2.ensures.code
