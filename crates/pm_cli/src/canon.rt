@@ -9,7 +9,7 @@ use crate::refusal::Stop;
 use pm_canon::canon;
 use pm_limits::MAX_EDGES;
 use pm_map::RootedMap;
-use pm_mapfile::put_map;
+use pm_mapfile::map_bytes;
 use std::alloc::{AllocError, Global};
 
 // The text of the canonical map that is the same.
@@ -17,9 +17,7 @@ pub(crate) fn canonical_text(alloc: Global, map: &RootedMap) -> Result<Vec<u8>, 
     ensures { IfOk result (λ text. HasCanonicalText map.now text.items) }
 {
     let canonical = canon(alloc, map)?;
-    let mut text = Vec::new(alloc);
-    put_map(alloc, &canonical, &mut text)?;
-    Ok(text)
+    map_bytes(alloc, &canonical)
 }
 
 // `canon`: the text of the canonical map of the map in the file.

@@ -9,15 +9,14 @@ use crate::choices_file::read_choices;
 use crate::refusal::{Refusal, Stop};
 use pm_euler::{MapClass, Quartic, Sample, SampleRefusal};
 use pm_lists::put_list;
-use pm_mapfile::put_map;
+use pm_mapfile::map_bytes;
 use std::alloc::{AllocError, Global};
 
 // The text of the map, and the line of the residue.
 fn sample_text(alloc: Global, sample: &Sample) -> Result<Vec<u8>, AllocError>
     ensures { IfOk result (λ text. IsTextOfSample sample.now.map sample.now.residue text.items) }
 {
-    let mut text = Vec::new(alloc);
-    put_map(alloc, &sample.map, &mut text)?;
+    let mut text = map_bytes(alloc, &sample.map)?;
     put_list(alloc, b"residue", &sample.residue, &mut text)?;
     Ok(text)
 }

@@ -1,5 +1,5 @@
 //! Worked texts.
-use crate::{FileRefusal, put_map, read_map, read_map_file};
+use crate::{FileRefusal, map_bytes, put_map, read_map, read_map_file};
 use pm_canon::same;
 use pm_lists::{NumList, put_list};
 use pm_map::{MapRefusal, RootedMap};
@@ -30,6 +30,8 @@ fn vertices_as_they_are_met(rt: HostRuntime) -> Result<(), Fail> {
         text.as_slice(),
         b"map 2 3\nv 3 0\nv 2\nv 1\nend\n".as_slice()
     );
+    let alone = map_bytes(rt.alloc(), &map)?;
+    assert_eq!(rt; alone.as_slice(), text.as_slice());
     Ok(())
 }
 

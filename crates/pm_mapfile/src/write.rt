@@ -27,8 +27,12 @@ pub fn map_has_one_text()
     ensures { HasOneText }
 {}
 
-/// The text of `map`.
-fn map_bytes(alloc: Global, map: &RootedMap) -> Result<Vec<u8>, AllocError>
+/// The text of `map`, as [`put_map`] appends it.
+///
+/// # Errors
+///
+/// Where memory runs out.
+pub fn map_bytes(alloc: Global, map: &RootedMap) -> Result<Vec<u8>, AllocError>
     ensures { IfOk result (λ bytes. IsMapText map.now bytes.items) }
 {
     let sigma = map.sigma();
