@@ -1,5 +1,8 @@
 pub mod Bounds
 pub mod Closed
+pub mod Eulerian
+pub mod Objects
+pub mod PlanePlanted
 pub mod Planted
 pub mod PlantedAnew
 pub mod Quartic

@@ -1,0 +1,54 @@
+-- Which map and which residue a list of choices gives: maps with vertices of given even degrees (Schaeffer 1997).
+use Rattle.std.specs.Prelude.{◌≡◌, ℕ, suc, ◌+◌, ◌/◌, List, [], ◌∷◌, ◌++◌, flat_map, slice_index, take, drop, length, Result, Ok, Err, ⊤}
+use Rattle.pm_limits.specs.declared.TheConstants.{MAX_DEGREE}
+use Rattle.pm_lists.specs.Valid.{IsValidList}
+use Rattle.pm_lehmer.specs.Lehmer.{code_of, IsArrangementOf}
+use Rattle.pm_words.specs.Word.{IsGoodStart, turned}
+use Rattle.pm_trees.specs.Pairs.{IsProfile, edges_of}
+use Rattle.pm_map.specs.Rotation.{RotationSystem, structure_of}
+use Rattle.pm_map.specs.Classes.{IsEulerian}
+use Rattle.pm_map.specs.ClassRules.{IsLeastOther}
+use Rattle.pm_map.specs.declared.admitted.Degrees.TheVariants.{EvenUpTo}
+use Rattle.pm_map.specs.declared.class_refusal.ClassRefusal.{ClassRefusal}
+use Rattle.pm_map.specs.declared.class_refusal.ClassRefusal.TheVariants.{Memory, Empty, TooMany, Vertex, Face, Loop, Double}
+use Rattle.pm_euler.specs.Bounds.{eulerian_choices}
+use Rattle.pm_euler.specs.Objects.{halves_of, nodes_of_profile, letters_of, objects_of}
+use Rattle.pm_euler.specs.PlanePlanted.{IsPlantedPlane}
+use Rattle.pm_euler.specs.PlantedAnew.{IsPlantedAnew}
+use Rattle.pm_euler.specs.Closed.{IsCanonicalClosure}
+
+-- for each degree the arrangement code of its objects, as they come, and then that of the leaf objects
+abbrev pub codes_by_degree : List (ℕ × ℕ) → List ℕ → List ℕ
+codes_by_degree pairs objects =
+    flat_map (λ (p : ℕ × ℕ). code_of (objects_of (halves_of pairs) (p.0 / 2) objects)) pairs
+    ++ code_of (objects_of (halves_of pairs) 0 objects)
+
+-- The first choices are the code of an arrangement of the objects. Read cyclically from its one good start, it is the
+-- preorder of a plane tree. The next choices are the patterns of the node objects. The last says at which free leaf the
+-- blossoming tree is planted anew. It is closed; the residue is the start, the codes by degree, and the number of the old
+-- plant.
+pub record SamplesEulerian (pairs : List (ℕ × ℕ)) (choices : List ℕ) (map : RotationSystem) (residue : List ℕ) : Type 0 where
+  pub valid : IsValidList choices (eulerian_choices pairs)
+  pub arrangement : List ℕ
+  pub is_arranged : IsArrangementOf (take (suc (edges_of pairs)) choices) arrangement
+  pub start : ℕ
+  pub is_start : IsGoodStart 1 (letters_of (halves_of pairs) arrangement) start
+  pub word : List ℕ
+  pub is_planted : IsPlantedPlane (halves_of pairs) (take (nodes_of_profile pairs) (drop (suc (edges_of pairs)) choices)) (turned start arrangement) word
+  pub turned_word : List ℕ
+  pub old_plant : ℕ
+  pub is_anew : IsPlantedAnew word (slice_index choices (suc (edges_of pairs) + nodes_of_profile pairs)) turned_word old_plant
+  pub is_closed : IsCanonicalClosure turned_word map
+  pub residue_is : residue ≡ start ∷ (codes_by_degree pairs (turned start arrangement) ++ old_plant ∷ [])
+
+-- What a map is answered that should have vertices of even degrees: how many it has of which degree, or the first rule
+-- that it breaks. Want of memory may come at any map.
+abbrev pub IsEulerianAnswer : RotationSystem → Result (List (ℕ × ℕ)) ClassRefusal → Type 0
+IsEulerianAnswer m (Ok pairs) = IsProfile pairs × IsEulerian (structure_of m) pairs
+IsEulerianAnswer m (Err Empty) = length m.sigma ≡ 0
+IsEulerianAnswer m (Err (Vertex dart)) = IsLeastOther (structure_of m) (EvenUpTo MAX_DEGREE) dart
+IsEulerianAnswer m (Err Memory) = ⊤
+IsEulerianAnswer m (Err (TooMany edges)) = ⊥
+IsEulerianAnswer m (Err (Face dart)) = ⊥
+IsEulerianAnswer m (Err (Loop dart)) = ⊥
+IsEulerianAnswer m (Err (Double dart)) = ⊥
