@@ -13,6 +13,7 @@ pub mod SameMaps
 pub mod SearchLemmas
 pub mod SimpleLemmas
 pub mod StandsLemmas
+pub mod TableLemmas
 pub mod TwinLemmas
 pub mod UniqueCanonical
 pub mod UniqueMeeting

@@ -5,6 +5,7 @@ pub mod ClassRules
 pub mod Classes
 pub mod CycleSize
 pub mod DegreeScan
+pub mod DegreeTable
 pub mod Ends
 pub mod FaceDistance
 pub mod FaceWalk

@@ -5,6 +5,7 @@ mod admitted;
 mod class_refusal;
 mod counting;
 mod darts;
+mod degree_table;
 mod degrees;
 mod euler;
 mod face_walk;

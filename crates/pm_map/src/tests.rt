@@ -196,3 +196,22 @@ fn other_degrees(rt: HostRuntime) -> Result<(), Fail> {
     assert_eq!(rt; map.face_of_other_degree(rt.alloc(), even)?, Some(1));
     Ok(())
 }
+
+#[test]
+fn vertices_of_each_degree(rt: HostRuntime) -> Result<(), Fail> {
+    let answer = RootedMap::from_parts(rt.alloc(), Vec::new(rt.alloc()), 0);
+    assert!(rt; answer.is_ok());
+    let Ok(point) = answer else { return Ok(()) };
+    let table = point.vertices_by_degree(rt.alloc(), 2)?;
+    assert_eq!(rt; table.as_slice(), [1, 0, 0].as_slice());
+    // A vertex of degree 2 and one of degree 4.
+    let sigma = Vec::from_slice(rt.alloc(), &[2, 3, 0, 4, 5, 1])?;
+    let answer = RootedMap::from_parts(rt.alloc(), sigma, 0);
+    assert!(rt; answer.is_ok());
+    let Ok(map) = answer else { return Ok(()) };
+    let table = map.vertices_by_degree(rt.alloc(), 4)?;
+    assert_eq!(rt; table.as_slice(), [0, 0, 1, 0, 1].as_slice());
+    let few = map.vertices_by_degree(rt.alloc(), 3)?;
+    assert_eq!(rt; few.as_slice(), [0, 0, 1, 0].as_slice());
+    Ok(())
+}
