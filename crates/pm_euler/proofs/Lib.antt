@@ -2,6 +2,9 @@ pub mod BoundLemmas
 pub mod ClosedMaps
 pub mod FreeLeaves
 pub mod OneSample
+pub mod PlaneLaws
+pub mod PlaneRows
+pub mod PlaneTexts
 pub mod PlantingSteps
 pub mod PlantingTrees
 pub mod PlantingWords

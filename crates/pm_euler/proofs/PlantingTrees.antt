@@ -71,7 +71,7 @@ unlike_is : (d b : ℕ) → unlike d b ≡ (d - 4) + (4 - d) + (b - 1) + (1 - b)
 unfolding unlike
 unlike_is d b = refl
 
-none_inside : (f : ℕ → ℕ → ℕ) (xs : List ℕ) (k : ℕ) → inner f xs ≡ 0 → slice_index xs k ≡ OPEN → value f 1 (drop (suc k) xs) ≡ 0
+pub none_inside : (f : ℕ → ℕ → ℕ) (xs : List ℕ) (k : ℕ) → inner f xs ≡ 0 → slice_index xs k ≡ OPEN → value f 1 (drop (suc k) xs) ≡ 0
 none_inside f [] k h e = absurd (omega arith)
 none_inside f (x ∷ xs) zero h e = let a = inner_open f x xs e in omega (arith, a, h)
 none_inside f (x ∷ xs) (suc k) h e =
