@@ -38,7 +38,7 @@ pub total-cons : (f : ℕ → ℕ → ℕ) (half : ℕ) (halves : List ℕ) → 
 unfolding total
 total-cons f half halves = sum_by-cons (object_value f) half halves
 
-total-append : (f : ℕ → ℕ → ℕ) (halves others : List ℕ) → total f (halves ++ others) ≡ total f halves + total f others
+pub total-append : (f : ℕ → ℕ → ℕ) (halves others : List ℕ) → total f (halves ++ others) ≡ total f halves + total f others
 unfolding total
 total-append f halves others = sum_by-append (object_value f) halves others
 
