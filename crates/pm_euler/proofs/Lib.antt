@@ -13,5 +13,4 @@ pub mod QuarticSamples
 pub mod RootRows
 pub mod Rows
 pub mod SidePatterns
-pub mod SideRows
 pub mod SideTexts

@@ -1,121 +1,73 @@
 -- The word of a binary tree with bud patterns is that of a blossoming tree in which each node has degree 4.
-use Rattle.std.proofs.Common.{◌≡◌, ℕ, zero, suc, ◌+◌, ◌-◌, ◌*◌, ◌%◌, ◌<◌, ◌≤◌, ◌==◌, cond, inl, inr, List, [], ◌∷◌, length, drop, slice_index, refl, ap, sym, ◌∙◌, subst, arith, ne_eqb}
-use Rattle.std.proofs.lemmas.Bool.{cases_eq}
+use Rattle.std.proofs.Common.{◌≡◌, ℕ, suc, ◌+◌, ◌*◌, ◌≤◌, ◌==◌, cond, List, [], ◌++◌, length, refl, sym, ◌∙◌, arith, length-append, ne_eqb}
 use Rattle.pm_limits.specs.declared.TheConstants.{MAX_EDGES}
-use Rattle.pm_trees.specs.declared.letters.TheConstants.{LEAF, BUD, OPEN}
-use Rattle.pm_trees.specs.Word.{contour}
-use Rattle.pm_trees.specs.Node.{IsNode, own_letters, degree, buds}
-use Rattle.pm_trees.specs.Blossoming.{IsBlossoming, nodes}
+use Rattle.pm_trees.specs.Blossoming.{IsBlossoming}
 use Rattle.pm_trees.specs.Blossoming.{leaves as tree_leaves}
 use Rattle.pm_trees.specs.Degrees.{nodes_of}
-use Rattle.pm_trees.proofs.Tally.{tally, tally_is, tally_yes}
-use Rattle.pm_trees.proofs.Dyck.{matched_from_dyck}
-use Rattle.pm_trees.proofs.Weights.{value, value_is, inner, inner_open, inner_other, weight}
-use Rattle.pm_trees.proofs.Rings.{contour_weight, of_degree, of_degree_is, nodes_weight}
-use Rattle.pm_remy.specs.Tree.{Tree, leaves}
+use Rattle.pm_trees.proofs.Tally.{tally, tally-nil, tally_yes, tally_no, tally-append}
+use Rattle.pm_trees.proofs.Rings.{of_degree, of_degree_is, nodes_weight}
+use Rattle.pm_remy.specs.Tree.{Tree, leaf, fork, labels_of, leaves}
 use Rattle.pm_euler.specs.Planted.{IsPlanted}
-use Rattle.pm_euler.proofs.SideRows.{times, times-suc, times_none, times_one, row_value, row_inner}
-use Rattle.pm_euler.proofs.SideTexts.{root_row, side_leaves}
+use Rattle.pm_euler.proofs.Rows.{object_value, object_value_leaf, object_value_node, total, total-nil, total-cons, total-append}
+use Rattle.pm_euler.proofs.RootRows.{root_length, root_leaves, root_weight, root_blossoming, amiss, amiss_is}
+use Rattle.pm_euler.proofs.SideTexts.{side_halves, side_leaves, planted_root_row}
 
-pub planted_some : (tree : Tree) (ranks word : List ℕ) → IsPlanted tree ranks word → 0 < length ranks
-planted_some tree ranks word h = let r = root_row tree ranks word h in omega (arith, r.counted)
+-- a tree has one fork less than leaves
+halves_length : (tree : Tree) → suc (length (side_halves tree)) ≡ 2 * leaves tree
+halves_length (leaf label) = refl
+halves_length (fork left right) =
+    let h = halves_length left in
+    let k = halves_length right in
+    let a = length-append (side_halves left) (side_halves right) in
+    let b = length-append (labels_of left) (labels_of right) in
+    omega (arith, h, k, a, b)
 
-pub planted_forks : (tree : Tree) (ranks word : List ℕ) → IsPlanted tree ranks word → leaves tree ≡ suc (length ranks)
-planted_forks tree ranks word h = side_leaves tree ranks _ h
+halves_leaves : (tree : Tree) → tally 0 (side_halves tree) ≡ leaves tree
+halves_leaves (leaf label) = let a = tally_yes 0 0 [] refl in let b = tally-nil 0 in omega (arith, a, b)
+halves_leaves (fork left right) =
+    let h = halves_leaves left in
+    let k = halves_leaves right in
+    let a = tally_no 0 2 (side_halves left ++ side_halves right) (λ e. omega arith) in
+    let b = tally-append 0 (side_halves left) (side_halves right) in
+    let c = length-append (labels_of left) (labels_of right) in
+    omega (arith, h, k, a, b, c)
+
+-- nothing at a node of degree 4 with one bud
+halves_none : (f : ℕ → ℕ → ℕ) (tree : Tree) → f 4 1 ≡ 0 → total f (side_halves tree) ≡ 0
+halves_none f (leaf label) z =
+    let a = total-cons f 0 [] in
+    let b = total-nil f in
+    let c = object_value_leaf f in
+    omega (arith, a, b, c)
+halves_none f (fork left right) z =
+    let h = halves_none f left z in
+    let k = halves_none f right z in
+    let a = total-cons f 2 (side_halves left ++ side_halves right) in
+    let b = total-append f (side_halves left) (side_halves right) in
+    let c : object_value f 2 ≡ f 4 1 = object_value_node f 1 in
+    omega (arith, h, k, a, b, c, z)
 
 pub planted_length : (tree : Tree) (ranks word : List ℕ) → IsPlanted tree ranks word → suc (length word) ≡ 4 * length ranks
-planted_length tree ranks word h = let r = root_row tree ranks word h in omega (arith, r.counted, r.row.long)
-
-pub planted_nodes : (tree : Tree) (ranks word : List ℕ) → IsPlanted tree ranks word → nodes word ≡ length ranks
-planted_nodes tree ranks word h =
-    let r = root_row tree ranks word h in
-    let a = tally_is OPEN word in
-    omega (arith, r.counted, r.row.opens, a)
+planted_length tree ranks word h =
+    let l = root_length (side_halves tree) word (planted_root_row tree ranks word h) in
+    let a = halves_length tree in
+    let b = side_leaves tree ranks _ h in
+    omega (arith, l, a, b)
 
 pub planted_leaves : (tree : Tree) (ranks word : List ℕ) → IsPlanted tree ranks word → tree_leaves word ≡ length ranks + 2
 planted_leaves tree ranks word h =
-    let r = root_row tree ranks word h in
-    let a = tally_yes LEAF LEAF word refl in
-    let b = tally_is LEAF (contour word) in
-    omega (arith, r.counted, r.row.leaves, a, b)
-
--- a sum over the nodes
-planted_weight : (tree : Tree) (ranks word : List ℕ) (f : ℕ → ℕ → ℕ) → IsPlanted tree ranks word → weight f (contour word) ≡ times (length ranks) (f 4 1)
-planted_weight tree ranks word f h =
-    let r = root_row tree ranks word h in
-    let a = contour_weight f word in
-    let b = row_value r.others word f r.row in
-    let c = row_inner r.others word f 3 1 r.row in
-    let d = ap (λ (n : ℕ). times n (f 4 1)) r.counted in
-    let e = times-suc r.others (f 4 1) in
-    omega (arith, a, b, c, d, e)
-
-weight_none : (tree : Tree) (ranks word : List ℕ) (f : ℕ → ℕ → ℕ) → IsPlanted tree ranks word → f 4 1 ≡ 0 → weight f (contour word) ≡ 0
-weight_none tree ranks word f h z = planted_weight tree ranks word f h ∙ ap (times (length ranks)) z ∙ times_none (length ranks)
-
-pub planted_nodes_of : (tree : Tree) (ranks word : List ℕ) → IsPlanted tree ranks word → nodes_of word 4 ≡ length ranks
-planted_nodes_of tree ranks word h =
-    let one : of_degree 4 4 1 ≡ 1 = of_degree_is 4 4 1 in
-    nodes_weight word 4 ∙ planted_weight tree ranks word (of_degree 4) h ∙ ap (times (length ranks)) one ∙ times_one (length ranks)
+    let l = root_leaves (side_halves tree) word (planted_root_row tree ranks word h) in
+    let a = halves_leaves tree in
+    let b = side_leaves tree ranks _ h in
+    omega (arith, l, a, b)
 
 pub planted_no_other : (tree : Tree) (ranks word : List ℕ) (d : ℕ) → IsPlanted tree ranks word → (d ≡ 4 → ⊥) → nodes_of word d ≡ 0
 planted_no_other tree ranks word d h n =
     let e : cond {A = ℕ} (4 == d) 1 0 ≡ 0 = rw (ne_eqb 4 d (λ w. n (sym w))) refl in
-    nodes_weight word d ∙ weight_none tree ranks word (of_degree d) h (of_degree_is d 4 1 ∙ e)
-
--- 0 at a node of degree 4 with one bud
-unlike : ℕ → ℕ → ℕ
-unlike d b = (d - 4) + (4 - d) + (b - 1) + (1 - b)
-
-unlike_is : (d b : ℕ) → unlike d b ≡ (d - 4) + (4 - d) + (b - 1) + (1 - b)
-unfolding unlike
-unlike_is d b = refl
-
-pub none_inside : (f : ℕ → ℕ → ℕ) (xs : List ℕ) (k : ℕ) → inner f xs ≡ 0 → slice_index xs k ≡ OPEN → value f 1 (drop (suc k) xs) ≡ 0
-none_inside f [] k h e = absurd (omega arith)
-none_inside f (x ∷ xs) zero h e = let a = inner_open f x xs e in omega (arith, a, h)
-none_inside f (x ∷ xs) (suc k) h e =
-    none_inside f xs k (elim (cases_eq x OPEN) [
-      | inl o ↦ (let a = inner_open f x xs o in omega (arith, a, h))
-      | inr n ↦ sym (inner_other f x xs n) ∙ h
-    ]) e
-
--- a node of degree 4 with one bud
-pub record IsFour (places : List ℕ) (node : ℕ) : Type 0 where
-  pub degree_is : degree places node ≡ 4
-  pub buds_are : buds places node ≡ 1
-
-like_four : (word : List ℕ) (node : ℕ) → value unlike 1 (drop (suc node) (contour word)) ≡ 0 → IsFour (contour word) node
-like_four word node z =
-    let a = value_is unlike 1 (drop (suc node) (contour word)) in
-    let b = unlike_is (1 + length (own_letters 0 (drop (suc node) (contour word)))) (tally BUD (own_letters 0 (drop (suc node) (contour word)))) in
-    let c = tally_is BUD (own_letters 0 (drop (suc node) (contour word))) in
-    record { degree_is = omega (arith, a, b, z); buds_are = omega (arith, a, b, c, z) }
-
-pub planted_four : (tree : Tree) (ranks word : List ℕ) → IsPlanted tree ranks word → (node : ℕ) → IsNode (contour word) node → IsFour (contour word) node
-planted_four tree ranks word h node (inl e) =
-    let z = weight_none tree ranks word unlike h (unlike_is 4 1) in
-    let a = contour_weight unlike word in
-    let root : value unlike 1 (drop 1 (contour word)) ≡ 0 = omega (arith, a, z) in
-    subst (IsFour (contour word)) (sym e) (like_four word 0 root)
-planted_four tree ranks word h node (inr o) =
-    let z = weight_none tree ranks word unlike h (unlike_is 4 1) in
-    let a = contour_weight unlike word in
-    let b = inner_other unlike LEAF word (λ e. omega arith) in
-    like_four word node (none_inside unlike (contour word) node (omega (arith, a, b, z)) o)
-
-pub planted_degree : (tree : Tree) (ranks word : List ℕ) → IsPlanted tree ranks word → (node : ℕ) → IsNode (contour word) node → degree (contour word) node ≡ 4
-planted_degree tree ranks word h node n = (planted_four tree ranks word h node n).degree_is
+    nodes_weight word d ∙ root_weight (side_halves tree) word (of_degree d) (planted_root_row tree ranks word h) ∙ halves_none (of_degree d) tree (of_degree_is d 4 1 ∙ e)
 
 pub planted_blossoming : (tree : Tree) (ranks word : List ℕ) → IsPlanted tree ranks word → 2 * length ranks ≤ MAX_EDGES → IsBlossoming word
 planted_blossoming tree ranks word h few =
-    let r = root_row tree ranks word h in
-    let l = planted_length tree ranks word h in
-    record {
-      in_order = record { letters = r.row.letters; matched = matched_from_dyck word r.row.dyck };
-      short = omega (arith, l, few);
-      degrees = λ node n.
-          let d = planted_degree tree ranks word h node n in
-          record { even = ap (λ (k : ℕ). k % 2) d; few = omega (arith, d) };
-      buds = λ node n. let f = planted_four tree ranks word h node n in omega (arith, f.degree_is, f.buds_are);
-    }
+    let a = halves_length tree in
+    let b = side_leaves tree ranks _ h in
+    root_blossoming (side_halves tree) word (planted_root_row tree ranks word h) (halves_none amiss tree (amiss_is 4 1)) (omega (arith, a, b, few))

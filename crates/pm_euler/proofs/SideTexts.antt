@@ -1,42 +1,34 @@
 -- The text of a side is a row of one letter: a leaf, or a node in its brackets.
-use Rattle.std.proofs.Common.{◌≡◌, ℕ, suc, ◌+◌, List, [], ◌∷◌, ◌++◌, length, refl, ap, sym, subst, arith, length-append}
-use Rattle.pm_trees.specs.declared.letters.TheConstants.{LEAF, BUD, OPEN, CLOSE}
-use Rattle.pm_trees.specs.BudPattern.{HasRank}
-use Rattle.pm_remy.specs.Tree.{Tree, fork, labels_of, leaves}
+use Rattle.std.proofs.Common.{◌≡◌, ℕ, suc, List, [], ◌∷◌, ◌++◌, length, refl, sym, subst, arith, length-append, append-nil}
+use Rattle.pm_trees.specs.declared.letters.TheConstants.{LEAF, OPEN, CLOSE}
+use Rattle.pm_trees.specs.BudPattern.{IsPattern, HasRank}
+use Rattle.pm_remy.specs.Tree.{Tree, leaf, fork, labels_of, leaves}
 use Rattle.pm_euler.specs.Planted.{filled, IsSide, IsPlanted}
 use Rattle.pm_euler.specs.Planted.IsSide.{of_leaf, of_fork}
-use Rattle.pm_euler.proofs.SidePatterns.{IsThree, pattern_cases}
-use Rattle.pm_euler.proofs.SidePatterns.IsThree.{bud_first, bud_second, bud_third}
-use Rattle.pm_euler.proofs.SideRows.{IsRow, row_nil, row_leaf, row_bud, row_join, row_node}
+use Rattle.pm_euler.proofs.Rows.{IsRow, row_leaf}
+use Rattle.pm_euler.proofs.RootRows.{IsRootRow, root_side}
+use Rattle.pm_euler.proofs.FilledRows.{node_row}
+use Rattle.pm_euler.proofs.FilledRows.AreRows.{no_rows, one_row}
 
--- the entries of a node of degree 4 with one bud and two sides
-filled_row : (m n : ℕ) (pattern left right : List ℕ) → IsThree pattern → IsRow 1 0 m left → IsRow 1 0 n right → IsRow 3 1 (m + n) (filled pattern (left ∷ right ∷ []))
-filled_row m n pattern left right (bud_first e) h k =
-    let P : List ℕ → Type 0 = λ w. IsRow 3 1 (m + n) (filled w (left ∷ right ∷ [])) in
-    let sides = row_join 1 0 m 1 0 (n + 0) left (right ++ []) h (row_join 1 0 n 0 0 0 right [] k row_nil) in
-    let all = row_join 1 1 0 2 0 (m + (n + 0)) (BUD ∷ []) (left ++ (right ++ [])) row_bud sides in
-    let same : 0 + (m + (n + 0)) ≡ m + n = omega arith in
-    subst P (sym e) (subst (λ (i : ℕ). IsRow 3 1 i (BUD ∷ (left ++ (right ++ [])))) same all)
-filled_row m n pattern left right (bud_second e) h k =
-    let P : List ℕ → Type 0 = λ w. IsRow 3 1 (m + n) (filled w (left ∷ right ∷ [])) in
-    let last = row_join 1 0 n 0 0 0 right [] k row_nil in
-    let behind = row_join 1 1 0 1 0 (n + 0) (BUD ∷ []) (right ++ []) row_bud last in
-    let all = row_join 1 0 m 2 1 (0 + (n + 0)) left (BUD ∷ (right ++ [])) h behind in
-    let same : m + (0 + (n + 0)) ≡ m + n = omega arith in
-    subst P (sym e) (subst (λ (i : ℕ). IsRow 3 1 i (left ++ (BUD ∷ (right ++ [])))) same all)
-filled_row m n pattern left right (bud_third e) h k =
-    let P : List ℕ → Type 0 = λ w. IsRow 3 1 (m + n) (filled w (left ∷ right ∷ [])) in
-    let behind = row_join 1 0 n 1 1 0 right (BUD ∷ []) k row_bud in
-    let all = row_join 1 0 m 2 1 (n + 0) left (right ++ BUD ∷ []) h behind in
-    let same : m + (n + 0) ≡ m + n = omega arith in
-    subst P (sym e) (subst (λ (i : ℕ). IsRow 3 1 i (left ++ (right ++ BUD ∷ []))) same all)
+-- the half degrees of the tree's nodes in preorder: 2 for a fork, and 0 for a leaf
+abbrev pub side_halves : Tree → List ℕ
+side_halves (leaf label) = 0 ∷ []
+side_halves (fork left right) = 2 ∷ side_halves left ++ side_halves right
 
-pub side_row : (tree : Tree) (ranks text : List ℕ) → IsSide tree ranks text → IsRow 1 0 (length ranks) text
+-- a fork with its two sides
+fork_row : (left right : Tree) (pattern left_text right_text : List ℕ) → IsPattern 2 pattern → IsRow 1 0 (side_halves left) left_text → IsRow 1 0 (side_halves right) right_text
+    → IsRootRow (side_halves (fork left right)) (filled pattern (left_text ∷ right_text ∷ []))
+fork_row left right pattern left_text right_text p h k =
+    let last = one_row (side_halves right) [] right_text [] k no_rows in
+    let sides = one_row (side_halves left) (side_halves right ++ []) left_text (right_text ∷ []) h last in
+    subst (λ (hs : List ℕ). IsRootRow (2 ∷ side_halves left ++ hs) (filled pattern (left_text ∷ right_text ∷ []))) (append-nil (side_halves right))
+    (node_row 2 pattern (side_halves left ++ (side_halves right ++ [])) (left_text ∷ right_text ∷ []) p refl sides)
+
+side_row : (tree : Tree) (ranks text : List ℕ) → IsSide tree ranks text → IsRow 1 0 (side_halves tree) text
 side_row _ _ _ (of_leaf label) = row_leaf
 side_row _ _ _ (of_fork left right rank left_ranks right_ranks pattern left_text right_text p h k) =
-    let row = filled_row (length left_ranks) (length right_ranks) pattern left_text right_text (pattern_cases pattern p.is_pattern) (side_row left left_ranks left_text h) (side_row right right_ranks right_text k) in
-    let same : suc (length left_ranks + length right_ranks) ≡ suc (length (left_ranks ++ right_ranks)) = (let a = length-append left_ranks right_ranks in omega (arith, a)) in
-    subst (λ (n : ℕ). IsRow 1 0 n (OPEN ∷ (filled pattern (left_text ∷ right_text ∷ []) ++ CLOSE ∷ []))) same (row_node (length left_ranks + length right_ranks) (filled pattern (left_text ∷ right_text ∷ [])) row)
+    let root = fork_row left right pattern left_text right_text p.is_pattern (side_row left left_ranks left_text h) (side_row right right_ranks right_text k) in
+    root_side (side_halves (fork left right)) (filled pattern (left_text ∷ right_text ∷ [])) root
 
 -- a tree has one leaf more than ranks
 pub side_leaves : (tree : Tree) (ranks text : List ℕ) → IsSide tree ranks text → leaves tree ≡ suc (length ranks)
@@ -110,21 +102,9 @@ root_of _ _ _ word (of_fork left right rank left_ranks right_ranks pattern left_
 pub root_fork : (tree : Tree) (ranks word : List ℕ) → IsPlanted tree ranks word → IsRootFork tree ranks word
 root_fork tree ranks word h = root_of tree ranks (OPEN ∷ word ++ CLOSE ∷ []) word h refl
 
--- the row of the root node
-pub record IsRootRow (ranks word : List ℕ) : Type 0 where
-  pub others : ℕ
-  pub counted : length ranks ≡ suc others
-  pub row : IsRow 3 1 others word
-
-pub root_row : (tree : Tree) (ranks word : List ℕ) → IsPlanted tree ranks word → IsRootRow ranks word
-root_row tree ranks word h =
+-- the row of the root fork
+pub planted_root_row : (tree : Tree) (ranks word : List ℕ) → IsPlanted tree ranks word → IsRootRow (side_halves tree) word
+planted_root_row tree ranks word h =
     let r = root_fork tree ranks word h in
-    let row = filled_row (length r.left_ranks) (length r.right_ranks) r.pattern r.left_text r.right_text (pattern_cases r.pattern r.has_rank.is_pattern) (side_row r.left r.left_ranks r.left_text r.left_side) (side_row r.right r.right_ranks r.right_text r.right_side) in
-    record {
-      others = length r.left_ranks + length r.right_ranks;
-      counted =
-          let a = length-append r.left_ranks r.right_ranks in
-          let b = ap length r.ranks_are in
-          omega (arith, a, b);
-      row = subst (IsRow 3 1 (length r.left_ranks + length r.right_ranks)) (sym r.word_is) row;
-    }
+    let root = fork_row r.left r.right r.pattern r.left_text r.right_text r.has_rank.is_pattern (side_row r.left r.left_ranks r.left_text r.left_side) (side_row r.right r.right_ranks r.right_text r.right_side) in
+    subst (λ (t : Tree). IsRootRow (side_halves t) word) (sym r.tree_is) (subst (IsRootRow (side_halves (fork r.left r.right))) (sym r.word_is) root)
