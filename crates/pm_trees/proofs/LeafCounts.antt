@@ -1,9 +1,9 @@
 -- The walk along the letters to the leaf of a number.
-use Rattle.std.proofs.Common.{◌≡◌, ℕ, suc, ◌+◌, ◌-◌, ◌≤◌, ◌<◌, List, ◌∷◌, length, slice_index, take, refl, ap, sym, ◌∙◌, subst, arith, take_all}
+use Rattle.std.proofs.Common.{◌≡◌, ℕ, suc, ◌+◌, ◌-◌, ◌<◌, List, length, slice_index, take, refl, ap, sym, ◌∙◌, subst, arith, take_all}
 use Rattle.pm_trees.specs.declared.letters.TheConstants.{LEAF}
 use Rattle.pm_trees.specs.Word.{count, contour}
 use Rattle.pm_trees.specs.Leaves.{IsLeafAt}
-use Rattle.pm_trees.proofs.Tally.{tally, tally_is, tally-nil}
+use Rattle.pm_trees.proofs.Tally.{tally_is}
 use Rattle.pm_trees.proofs.Levels.{seen, seen_is, seen_none, seen_yes, seen_no}
 
 -- so many leaves are still to be passed, with the one that is sought

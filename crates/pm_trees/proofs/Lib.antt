@@ -2,6 +2,7 @@ pub mod Ahead
 pub mod Balance
 pub mod Binomials
 pub mod Bracketed
+pub mod CountedPairs
 pub mod Dyck
 pub mod LeafCounts
 pub mod LeafTurns

@@ -1,9 +1,15 @@
 -- The pairs of a table of counts, and the profile of a tree.
-use Rattle.std.proofs.Common.{◌≡◌, ◌⊎◌, ℕ, zero, suc, ◌≤◌, ◌<◌, inl, inr, List, [], ◌∷◌, ◌++◌, length, slice_index, refl, ap, sym, ◌∙◌, subst, arith}
+use Rattle.std.proofs.Common.{◌≡◌, ◌⊎◌, Result, Ok, Err, ℕ, zero, suc, ◌≤◌, ◌<◌, inl, inr, List, [], ◌∷◌, ◌++◌, length, slice_index, refl, ap, sym, ◌∙◌, subst, arith}
 use Rattle.std.proofs.lemmas.Bool.{cases_eq, cases_lt}
 use Rattle.std.proofs.lemmas.List.{get_or_append_left, get_or_push, length_push, get_or_past}
 use Rattle.pm_trees.specs.Pairs.{pair_at, degree_before}
 use Rattle.pm_trees.specs.Degrees.{AreListed}
+use Rattle.pm_trees.specs.Pairs.{IsProfile}
+use Rattle.pm_trees.specs.Profile.{IsProfileAnswer, IsTableAnswer}
+use Rattle.pm_trees.specs.declared.profile.Profile.{Profile}
+use Rattle.pm_trees.specs.declared.profile.ProfileRefusal.{ProfileRefusal}
+use Rattle.pm_trees.specs.declared.profile.ProfileRefusal.TheVariants.{Memory, Pair, TooMany}
+use Rattle.pm_trees.proofs.CountedPairs.{degree_above}
 
 -- the pairs of the numbers below i
 pub record AreListedBelow (counts : List ℕ) (pairs : List (ℕ × ℕ)) (i : ℕ) : Type 0 where
@@ -95,3 +101,22 @@ listed_end counts pairs i e a = record {
         | inr m ↦ absurd (let g = get_or_past counts d 0 (omega arith) in omega (arith, g, h))
       ];
 }
+
+-- there are no more pairs than entries
+pub listed_few : (counts : List ℕ) (pairs : List (ℕ × ℕ)) → AreListed counts pairs → length pairs ≤ length counts
+listed_few counts pairs a = elim (cases_lt (length counts) (length pairs)) [
+  | inl more ↦
+      let high = degree_above pairs (length counts) a.rising more in
+      let some = a.some (length counts) more in
+      let counted = a.counted (length counts) more in
+      let past = get_or_past counts (pair_at pairs (length counts)).0 0 (omega arith) in
+      absurd (omega (arith, some, counted, past))
+  | inr few ↦ few
+]
+
+-- the answer to the pairs of a table is that to the table
+pub table_answer : (counts : List ℕ) (pairs : List (ℕ × ℕ)) (answer : Result Profile ProfileRefusal) → AreListed counts pairs → IsProfileAnswer pairs answer → IsTableAnswer counts answer
+table_answer counts pairs (Ok profile) listed (same, is) = (subst (AreListed counts) (sym same) listed, subst IsProfile (sym same) is)
+table_answer counts pairs (Err (Pair place)) listed first = (pairs, listed, first)
+table_answer counts pairs (Err (TooMany edges)) listed many = (pairs, listed, many)
+table_answer counts pairs (Err Memory) listed _ = tt

@@ -1,17 +1,16 @@
 -- The profile of a tree: it is one, and there is no other.
-use Rattle.std.proofs.Common.{◌≡◌, ℕ, zero, suc, ◌+◌, ◌-◌, ◌*◌, ◌≤◌, ◌<◌, cond, ltb, inl, inr, List, [], ◌∷◌, length, take, refl, ap, ap₂, sym, ◌∙◌, subst, arith, take_all, length-append, add-one, eq-eqb, ne_eqb}
+use Rattle.std.proofs.Common.{◌≡◌, ℕ, zero, suc, ◌+◌, ◌*◌, ◌≤◌, ◌<◌, cond, ltb, inl, inr, List, [], ◌∷◌, length, refl, ap, ap₂, sym, ◌∙◌, subst, arith, length-append, eq-eqb, ne_eqb}
 use Rattle.std.proofs.lemmas.Bool.{cases_eq, cases_lt, cases_order, lt-ltb, le-ltb}
-use Rattle.std.proofs.lemmas.List.{same_lists, get_or_default}
-use Rattle.std.proofs.lemmas.List.Sums.{sum_by_more}
 use Rattle.std.proofs.Math.Nat.{mul-add}
 use Rattle.pm_limits.specs.declared.TheConstants.{MAX_EDGES}
 use Rattle.pm_trees.specs.declared.letters.TheConstants.{BUD, OPEN, CLOSE}
 use Rattle.pm_trees.specs.Word.{contour}
 use Rattle.pm_trees.specs.Node.{own_letters}
 use Rattle.pm_trees.specs.Blossoming.{IsBlossoming}
-use Rattle.pm_trees.specs.Pairs.{IsProfile, degree_before, degree_sum, edges_of, pair_at}
+use Rattle.pm_trees.specs.Pairs.{IsProfile, edges_of, pair_at}
 use Rattle.pm_trees.specs.Degrees.{AreCounts, AreListed, IsProfileOf, nodes_before, nodes_of}
 use Rattle.pm_trees.specs.Replanting.{ProfileIsKept, ProfileIsUnique}
+use Rattle.pm_trees.proofs.CountedPairs.{AreCounted, sum_bounded, one_counted}
 use Rattle.pm_trees.proofs.Tally.{tally}
 use Rattle.pm_trees.proofs.Own.{own_length, other_here}
 use Rattle.pm_trees.proofs.Dyck.{IsDyck}
@@ -182,49 +181,11 @@ total-le word d t =
     let b = plain_weight (contour word) (ring_dyck word t.in_order) in
     omega (arith, a, b)
 
-total_grows : (word : List ℕ) (d n : ℕ) → total word d ≤ total word (n + d)
-total_grows word d zero = let e : 0 + d ≡ d = omega arith in let f = ap (total word) e in omega (arith, f)
-total_grows word d (suc n) =
-    let h = total_grows word d n in
-    let e : suc n + d ≡ suc (n + d) = omega arith in
-    let f = ap (total word) e in
-    let g = total_more word (n + d) in
-    omega (arith, f, g, h)
-
-total_up : (word : List ℕ) (d e : ℕ) → d ≤ e → total word d ≤ total word e
-total_up word d e l =
-    let h = total_grows word d (e - d) in
-    let f : (e - d) + d ≡ e = omega arith in
-    let g = ap (total word) f in
-    omega (arith, g, h)
-
--- pairs in rising order, with the counts of a word
-pub record AreOf (word : List ℕ) (pairs : List (ℕ × ℕ)) : Type 0 where
-  pub rising : (k : ℕ) → k < length pairs → degree_before pairs k < (pair_at pairs k).0
-  pub some : (k : ℕ) → k < length pairs → 0 < (pair_at pairs k).1
-  pub counted : (k : ℕ) → k < length pairs → (pair_at pairs k).1 ≡ nodes_of word (pair_at pairs k).0
-  pub all : (d : ℕ) → 0 < nodes_of word d → (k : ℕ) × (k < length pairs) × ((pair_at pairs k).0 ≡ d)
-
-front_sum : (word : List ℕ) (pairs : List (ℕ × ℕ)) (k : ℕ) → AreOf word pairs → k ≤ length pairs → degree_sum (take k pairs) ≤ total word (suc (degree_before pairs k))
-front_sum word pairs zero a l = omega arith
-front_sum word pairs (suc k) a l =
-    let h = front_sum word pairs k a (omega arith) in
-    let m : k < length pairs = omega arith in
-    let r = a.rising k m in
-    let u = total_up word (suc (degree_before pairs k)) (pair_at pairs k).0 (omega arith) in
-    let v = total_more word (pair_at pairs k).0 in
-    let s = sum_by_more (λ (p : ℕ × ℕ). p.0 * p.1) pairs k (0, 0) m in
-    let t = ap (λ (n : ℕ). degree_sum (take n pairs)) (add-one k) in
-    let c = ap (λ (n : ℕ). (pair_at pairs k).0 * n) (a.counted k m) in
-    omega (arith, h, u, v, s, t, c)
-
-few_edges : (word : List ℕ) (pairs : List (ℕ × ℕ)) → IsBlossoming word → AreOf word pairs → edges_of pairs ≤ MAX_EDGES
+few_edges : (word : List ℕ) (pairs : List (ℕ × ℕ)) → IsBlossoming word → AreCounted (nodes_of word) pairs → edges_of pairs ≤ MAX_EDGES
 few_edges word pairs t a =
-    let h = front_sum word pairs (length pairs) a (omega arith) in
-    let b = total-le word (suc (degree_before pairs (length pairs))) t in
-    let c = ap degree_sum (take_all (length pairs) pairs (omega arith)) in
+    let h = sum_bounded (nodes_of word) (total word) (total_more word) pairs (suc (length word)) a (λ d. total-le word d t) in
     let s = t.short in
-    omega (arith, h, b, c, s)
+    omega (arith, h, s)
 
 -- the root node has a degree
 root_counts : (word : List ℕ) → 0 < nodes_of word (suc (0 + own_length 0 word))
@@ -240,7 +201,7 @@ no_degree word n h =
     let e = (node_from (contour word) 0 m.0 m.1).1 in
     omega (arith, e)
 
-pub of_from : (word counts : List ℕ) (pairs : List (ℕ × ℕ)) → IsBlossoming word → AreCounts word counts → AreListed counts pairs → AreOf word pairs
+pub of_from : (word counts : List ℕ) (pairs : List (ℕ × ℕ)) → IsBlossoming word → AreCounts word counts → AreListed counts pairs → AreCounted (nodes_of word) pairs
 of_from word counts pairs t c l = record {
   rising = l.rising;
   some = l.some;
@@ -253,7 +214,7 @@ of_from word counts pairs t c l = record {
   positive zero h = absurd (no_degree word (length (contour word)) h)
   positive (suc d) h = omega arith
 
-profile_from : (word : List ℕ) (pairs : List (ℕ × ℕ)) → IsBlossoming word → AreOf word pairs → IsProfile pairs
+profile_from : (word : List ℕ) (pairs : List (ℕ × ℕ)) → IsBlossoming word → AreCounted (nodes_of word) pairs → IsProfile pairs
 profile_from word pairs t a = record {
   are_pairs = record {
     some = let r = a.all (suc (0 + own_length 0 word)) (root_counts word) in let l = r.1 in omega (arith, l);
@@ -280,105 +241,17 @@ profile_at word text counts table pairs t e f c l =
     let Q : List ℕ → Type 0 = λ xs. AreListed xs pairs in
     profile_is word counts pairs t (subst P e c) (subst Q f l)
 
--- degrees rise from pair to pair
-rises : (pairs : List (ℕ × ℕ)) (i j : ℕ) → ((k : ℕ) → k < length pairs → degree_before pairs k < (pair_at pairs k).0) → i < j → j < length pairs → (pair_at pairs i).0 < (pair_at pairs j).0
-rises pairs i zero r l m = absurd (omega arith)
-rises pairs i (suc j) r l m =
-    let a = r (suc j) m in
-    elim (cases_eq i j) [
-      | inl e ↦ (let f = ap (λ (k : ℕ). (pair_at pairs k).0) e in omega (arith, a, f))
-      | inr n ↦ (let h = rises pairs i j r (omega arith) (omega arith) in omega (arith, a, h))
-    ]
-
--- the pair at a place of one profile is there in the other
-record IsSame (one two : List (ℕ × ℕ)) (k : ℕ) : Type 0 where
-  within : k < length two
-  same : (pair_at one k).0 ≡ (pair_at two k).0
-
--- where the degrees of the pair at k are at j in the other profile, and those of its pair at k are at i in the first
-module _ (one two : List (ℕ × ℕ)) (k : ℕ) (rise_one : (i : ℕ) → i < length one → degree_before one i < (pair_at one i).0) (rise_two : (i : ℕ) → i < length two → degree_before two i < (pair_at two i).0)
-    (before : (i : ℕ) → i < k → i < length one → IsSame one two i) (l : k < length one) where
-  not_less : (j : ℕ) → (pair_at two j).0 ≡ (pair_at one k).0 → j < k → ⊥
-  not_less j t less =
-      let b = before j less (omega arith) in
-      let s = b.same in
-      let r = rises one j k rise_one less l in
-      omega (arith, r, s, t)
-
-  not_more : (i j : ℕ) → i < length one → (pair_at one i).0 ≡ (pair_at two k).0 → j < length two → (pair_at two j).0 ≡ (pair_at one k).0 → k < j → ⊥
-  not_more i j n u m t more =
-      let r = rises two k j rise_two more m in
-      elim (cases_order i k) [
-        | inl same ↦ (let v = ap (λ (x : ℕ). (pair_at one x).0) same in omega (arith, r, t, u, v))
-        | inr apart ↦ elim apart [
-          | inl less ↦
-              let b = before i less n in
-              let s = b.same in
-              let v = rises two i k rise_two less (omega arith) in
-              omega (arith, s, u, v)
-          | inr later ↦ (let v = rises one k i rise_one later n in omega (arith, r, t, u, v))
-        ]
-      ]
-
-  here_from : (j : ℕ) → j < length two → (pair_at two j).0 ≡ (pair_at one k).0 → j ≡ k → IsSame one two k
-  here_from j m t e = record { within = omega arith; same = sym t ∙ ap (λ (i : ℕ). (pair_at two i).0) e }
-
--- the degree of each pair has a place in the other profile
-place_in : (word other : List ℕ) (one two : List (ℕ × ℕ)) (k : ℕ) → ((d : ℕ) → nodes_of other d ≡ nodes_of word d) → IsProfileOf word one → IsProfileOf other two → k < length one → (j : ℕ) × (j < length two) × ((pair_at two j).0 ≡ (pair_at one k).0)
-place_in word other one two k e p q l =
-    let some = (p.is_profile.are_pairs.right k l).counted in
-    let c = p.counted k l in
-    let f = e (pair_at one k).0 in
-    q.all (pair_at one k).0 (omega (arith, some, c, f))
-
-same_next : (word other : List ℕ) (one two : List (ℕ × ℕ)) (k : ℕ) → ((d : ℕ) → nodes_of other d ≡ nodes_of word d) → IsProfileOf word one → IsProfileOf other two → ((i : ℕ) → i < k → i < length one → IsSame one two i) → k < length one → IsSame one two k
-same_next word other one two k e p q before l =
-    let rise_one = λ (i : ℕ) (m : i < length one). (p.is_profile.are_pairs.right i m).rising in
-    let rise_two = λ (i : ℕ) (m : i < length two). (q.is_profile.are_pairs.right i m).rising in
-    let j = place_in word other one two k e p q l in
-    elim (cases_order j.0 k) [
-      | inl here ↦ here_from one two k rise_one rise_two before l j.0 j.1 j.2 here
-      | inr n ↦ elim n [
-        | inl less ↦ absurd (not_less one two k rise_one rise_two before l j.0 j.2 less)
-        | inr more ↦
-            let m : k < length two = (let w = j.1 in omega (arith, more, w)) in
-            let i = place_in other word two one k (λ d. sym (e d)) q p m in
-            absurd (not_more one two k rise_one rise_two before l i.0 j.0 i.1 i.2 j.1 j.2 more)
-      ]
-    ]
-
-same_upto : (word other : List ℕ) (one two : List (ℕ × ℕ)) (k : ℕ) → ((d : ℕ) → nodes_of other d ≡ nodes_of word d) → IsProfileOf word one → IsProfileOf other two → (i : ℕ) → i < k → i < length one → IsSame one two i
-same_upto word other one two zero e p q i l m = absurd (omega arith)
-same_upto word other one two (suc k) e p q i l m =
-    elim (cases_lt i k) [
-      | inl less ↦ same_upto word other one two k e p q i less m
-      | inr ge ↦ same_next word other one two i e p q (λ j n o. same_upto word other one two k e p q j (omega arith) o) m
-    ]
-
-same_at : (word other : List ℕ) (one two : List (ℕ × ℕ)) (k : ℕ) → ((d : ℕ) → nodes_of other d ≡ nodes_of word d) → IsProfileOf word one → IsProfileOf other two → k < length one → IsSame one two k
-same_at word other one two k e p q l = same_upto word other one two (suc k) e p q k (omega arith) l
-
-not_longer : (word other : List ℕ) (one two : List (ℕ × ℕ)) → ((d : ℕ) → nodes_of other d ≡ nodes_of word d) → IsProfileOf word one → IsProfileOf other two → length one ≤ length two
-not_longer word other one two e p q =
-    elim (cases_lt (length two) (length one)) [
-      | inl l ↦ absurd (let s = same_at word other one two (length two) e p q l in let w = s.within in omega (arith, w))
-      | inr g ↦ g
-    ]
-
-pair_same : (p q : ℕ × ℕ) → p.0 ≡ q.0 → p.1 ≡ q.1 → p ≡ q
-pair_same p q e f = ap₂ (λ (x y : ℕ). (x, y)) e f
+-- the pairs of a profile are those that are counted
+counts_of : (word : List ℕ) (pairs : List (ℕ × ℕ)) → IsProfileOf word pairs → AreCounted (nodes_of word) pairs
+counts_of word pairs p = record {
+  rising = λ k l. (p.is_profile.are_pairs.right k l).rising;
+  some = λ k l. (p.is_profile.are_pairs.right k l).counted;
+  counted = p.counted;
+  all = p.all;
+}
 
 pub same_profile : (word other : List ℕ) (one two : List (ℕ × ℕ)) → ((d : ℕ) → nodes_of other d ≡ nodes_of word d) → IsProfileOf word one → IsProfileOf other two → one ≡ two
-same_profile word other one two e p q =
-    let a = not_longer word other one two e p q in
-    let b = not_longer other word two one (λ d. sym (e d)) q p in
-    same_lists one two (omega (arith, a, b)) (λ k d l.
-    let s = same_at word other one two k e p q l in
-    let c = p.counted k l in
-    let f = q.counted k s.within in
-    let g = e (pair_at two k).0 in
-    let h = ap (nodes_of word) s.same in
-    get_or_default one k d (0, 0) l ∙ pair_same (pair_at one k) (pair_at two k) s.same (c ∙ h ∙ sym g ∙ sym f) ∙ get_or_default two k (0, 0) d s.within)
+same_profile word other one two e p q = one_counted (nodes_of word) (nodes_of other) one two e (counts_of word one p) (counts_of other two q)
 
 pub profile_unique : ProfileIsUnique
 profile_unique word one two p q = same_profile word word one two (λ d. refl) p q

@@ -1,11 +1,11 @@
 -- A pattern's rank is its number, so ranks and patterns belong together one to one and in order.
-use Rattle.std.proofs.Common.{◌≡◌, ℕ, zero, suc, ◌+◌, ◌-◌, ◌*◌, ◌/◌, ◌≤◌, ◌<◌, ◌⊎◌, ◌↔◌, inl, inr, List, [], ◌∷◌, length, All, refl, ap, sym, ◌∙◌, subst, arith}
+use Rattle.std.proofs.Common.{◌≡◌, ℕ, zero, suc, ◌+◌, ◌-◌, ◌*◌, ◌≤◌, ◌<◌, ◌⊎◌, inl, inr, List, [], ◌∷◌, length, All, refl, ap, sym, ◌∙◌, arith}
 use Rattle.std.proofs.lemmas.Bool.{cases_lt, cases_eq}
 use Rattle.std.proofs.lemmas.List.Elements.{All-cons, All-nil}
 use Rattle.pm_trees.specs.declared.letters.TheConstants.{BUD}
 use Rattle.pm_trees.specs.declared.patterns.TheConstants.{SLOT}
 use Rattle.pm_trees.specs.Binomial.{choose}
-use Rattle.pm_trees.specs.BudPattern.{IsPattern, IsBefore, HasRank, AreRanked, PatternsAreRanked}
+use Rattle.pm_trees.specs.BudPattern.{IsPattern, HasRank, PatternsAreRanked}
 use Rattle.pm_trees.proofs.Tally.{tally, tally_is, tally-nil, tally_yes, tally_no}
 use Rattle.pm_trees.proofs.Ranking.{IsTwo, IsOf, word_of, number_of, number_below, word_of_is, number_of_word, word_of_number, number_rises, number_orders}
 

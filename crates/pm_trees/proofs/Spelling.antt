@@ -1,5 +1,5 @@
 -- The writing of the pattern of a rank letter by letter, and the reading of its rank.
-use Rattle.std.proofs.Common.{◌≡◌, ℕ, zero, suc, ◌+◌, ◌-◌, ◌*◌, ◌/◌, ◌^◌, ◌≤◌, ◌<◌, ◌⊎◌, inl, inr, List, [], ◌∷◌, ◌++◌, length, get_or, take, drop, refl, ap, sym, ◌∙◌, subst, arith, append_assoc, take_all, add-one}
+use Rattle.std.proofs.Common.{◌≡◌, ℕ, zero, suc, ◌+◌, ◌-◌, ◌*◌, ◌^◌, ◌≤◌, ◌<◌, inl, inr, List, [], ◌∷◌, ◌++◌, length, get_or, take, drop, refl, ap, sym, ◌∙◌, subst, arith, append_assoc, take_all, add-one}
 use Rattle.std.proofs.Math.ListN.{set, length-set}
 use Rattle.std.proofs.Math.Seq.{drop-cons}
 use Rattle.std.proofs.lemmas.Bool.{cases_lt}
@@ -9,7 +9,7 @@ use Rattle.pm_trees.specs.declared.patterns.TheConstants.{SLOT}
 use Rattle.pm_trees.specs.Binomial.{choose}
 use Rattle.pm_trees.specs.BudPattern.{IsHalfDegree, IsPattern, HasRank, half_degree}
 use Rattle.pm_trees.proofs.Binomials.{choose_none, choose_above, choose_small, pascal}
-use Rattle.pm_trees.proofs.Ranking.{IsOf, Head, bud_first, slot_first, head_cases, Side, low, high, side_cases, word_of, word_of_none, word_of_low, word_of_high, number_of, number_of_none, number_of_bud, number_of_slot, number_below, word_of_is, number_of_word}
+use Rattle.pm_trees.proofs.Ranking.{IsOf, Head, bud_first, slot_first, head_cases, low, high, side_cases, word_of, word_of_none, word_of_low, word_of_high, number_of, number_of_none, number_of_bud, number_of_slot, number_below, word_of_is, number_of_word}
 use Rattle.pm_trees.proofs.Ranked.{of_pattern, pattern_from, rank_from}
 
 -- the letters so far and those that the rest of the rank gives make up the pattern

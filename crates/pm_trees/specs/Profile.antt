@@ -6,6 +6,7 @@ use Rattle.pm_trees.specs.declared.profile.Profile.{Profile}
 use Rattle.pm_trees.specs.declared.profile.ProfileRefusal.{ProfileRefusal}
 use Rattle.pm_trees.specs.declared.profile.ProfileRefusal.TheVariants.{Memory, Pair, TooMany}
 use Rattle.pm_trees.specs.First.{IsFirst}
+use Rattle.pm_trees.specs.Degrees.{AreListed}
 use Rattle.pm_trees.specs.Pairs.{ArePairs, BreaksPair, IsProfile, edges_of}
 
 -- every pair is right, but the nodes have more edges than a map may have: how many
@@ -20,3 +21,11 @@ IsProfileAnswer pairs (Ok profile) = (profile ≡ pairs) × IsProfile pairs
 IsProfileAnswer pairs (Err (Pair place)) = IsFirst (BreaksPair pairs) place
 IsProfileAnswer pairs (Err (TooMany edges)) = HasTooMany pairs edges
 IsProfileAnswer pairs (Err Memory) = ⊤
+
+-- The answer to a table of counts: that to the pairs of the degrees from 1 on that have a count, in rising order, with
+-- their counts. Want of memory may come at any table.
+abbrev pub IsTableAnswer : List ℕ → Result Profile ProfileRefusal → Type 0
+IsTableAnswer counts (Ok profile) = AreListed counts profile × IsProfile profile
+IsTableAnswer counts (Err (Pair place)) = (pairs : List (ℕ × ℕ)) × AreListed counts pairs × IsFirst (BreaksPair pairs) place
+IsTableAnswer counts (Err (TooMany edges)) = (pairs : List (ℕ × ℕ)) × AreListed counts pairs × HasTooMany pairs edges
+IsTableAnswer counts (Err Memory) = ⊤

@@ -48,7 +48,7 @@ fn degree_counts(alloc: Global, word: &[u8]) -> Result<Vec<u32>, AllocError>
 }
 
 /// The numbers from 1 on that have a count other than 0, in rising order, with their counts.
-fn listed(alloc: Global, counts: &[u32]) -> Result<Vec<(u32, u32)>, AllocError>
+pub(crate) fn listed(alloc: Global, counts: &[u32]) -> Result<Vec<(u32, u32)>, AllocError>
     requires { length counts.now < 2 ^ 32 }
     ensures { IfOk result (λ pairs. AreListed counts.now pairs.items) }
 {

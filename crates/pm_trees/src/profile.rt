@@ -1,6 +1,7 @@
 //! Profiles: how many nodes of which degree a tree has.
 ghost use Rattle.std.specs.Prelude.{◌≡◌, ℕ};
 
+use crate::degrees::listed;
 use crate::pairs::{degree_sum, first_wrong};
 use pm_limits::MAX_EDGES;
 use std::alloc::{AllocError, Global};
@@ -48,7 +49,7 @@ impl Model for Profile {
 impl Profile {
     ghost use Rattle.std.specs.Prelude.{◌<◌, ◌^◌, length};
     ghost use Rattle.pm_trees.specs.Pairs.{IsProfile};
-    ghost use Rattle.pm_trees.specs.Profile.{IsProfileAnswer};
+    ghost use Rattle.pm_trees.specs.Profile.{IsProfileAnswer, IsTableAnswer};
 
     /// Takes pairs of a degree and a count, of fewer than 2^32 pairs.
     ///
@@ -68,6 +69,20 @@ impl Profile {
         }
         let pairs = Vec::from_slice(alloc, pairs)?;
         Ok(Profile { pairs })
+    }
+
+    /// Takes a table of fewer than 2^32 entries: entry `d`, for `d` from 1 on, is how many nodes have degree `d`. The pairs
+    /// are those of the degrees that have a count, in rising order, with their counts.
+    ///
+    /// # Errors
+    ///
+    /// As those of [`Profile::of_pairs`] for these pairs.
+    pub fn of_counts(alloc: Global, counts: &[u32]) -> Result<Profile, ProfileRefusal>
+        requires { length counts.now < 2 ^ 32 }
+        ensures { IsTableAnswer counts.now result }
+    {
+        let pairs = listed(alloc, counts)?;
+        Profile::of_pairs(alloc, &pairs)
     }
 
     /// The pairs of a degree and the number of nodes that have it, in rising order of the degree.

@@ -40,3 +40,14 @@ fn keeps_the_pairs(rt: HostRuntime) -> Result<(), Fail> {
     assert_eq!(rt; profile.pairs(), [(2, 1), (4, 1)].as_slice());
     Ok(())
 }
+
+#[test]
+fn takes_a_table_of_counts(rt: HostRuntime) -> Result<(), Fail> {
+    let profile = Profile::of_counts(rt.alloc(), &[7, 0, 1, 0, 3])?;
+    assert_eq!(rt; profile.pairs(), [(2, 1), (4, 3)].as_slice());
+    let odd = Profile::of_counts(rt.alloc(), &[0, 0, 1, 2]).err();
+    assert_eq!(rt; odd, pair(1));
+    let empty = Profile::of_counts(rt.alloc(), &[1]).err();
+    assert_eq!(rt; empty, pair(0));
+    Ok(())
+}

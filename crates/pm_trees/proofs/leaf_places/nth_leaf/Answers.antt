@@ -1,4 +1,4 @@
-use Rattle.std.proofs.Common.{arith, ◌+◌}
+use Rattle.std.proofs.Common.{arith}
 use Rattle.pm_trees.proofs.LeafCounts.{counting_start, counting_leaf, counting_other, counting_found, counting_end}
 use Rattle.pm_trees.proofs.leaf_places.nth_leaf.Goals as goal
 use Rattle.pm_trees.proofs.leaf_places.nth_leaf.Goals.{then-letter-eq-LEAF+else-left-eq1, else-letter-eq-LEAF}

@@ -1,5 +1,5 @@
 use Rattle.std.proofs.Common.{arith, refl, ◌<◌, ◌-◌, length}
-use Rattle.pm_trees.proofs.Spelling.{writing_start, writing_turn, writing_has_slot, writing_bud, writing_slot, writing_same, writing_end}
+use Rattle.pm_trees.proofs.Spelling.{writing_turn, writing_has_slot, writing_bud, writing_slot, writing_same, writing_end}
 use Rattle.pm_trees.proofs.patterns.pattern.Goals as goal
 use Rattle.pm_trees.proofs.patterns.pattern.Goals.{then-rest-with_bud, else-rest-with_bud}
 

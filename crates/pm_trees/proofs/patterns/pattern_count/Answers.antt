@@ -1,4 +1,3 @@
-use Rattle.std.proofs.Common.{arith}
 use Rattle.pm_trees.proofs.Binomials.{central_start, central_next}
 use Rattle.pm_trees.proofs.patterns.pattern_count.Goals as goal
 

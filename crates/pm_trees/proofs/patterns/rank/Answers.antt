@@ -1,5 +1,4 @@
-use Rattle.std.proofs.Common.{arith, refl, ap, ◌≡◌, ◌<◌, ◌+◌, ◌-◌, ◌/◌, length}
-use Rattle.pm_trees.specs.BudPattern.{half_degree}
+use Rattle.std.proofs.Common.{arith, refl, ◌-◌}
 use Rattle.pm_trees.proofs.Spelling.{spelled_start, spelled_turn, spelled_bud, spelled_slot, spelled_same, spelled_end}
 use Rattle.pm_trees.proofs.patterns.rank.Goals as goal
 use Rattle.pm_trees.proofs.patterns.rank.Goals.{then-letter-eq-BUD, else-letter-eq-BUD}
