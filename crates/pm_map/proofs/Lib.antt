@@ -1,4 +1,5 @@
 pub mod CanonicalNames
+pub mod CarriedDegrees
 pub mod CarriedMeeting
 pub mod CarriedSizes
 pub mod CarriedStructure

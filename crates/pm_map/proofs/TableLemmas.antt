@@ -3,7 +3,7 @@ use Rattle.std.proofs.Common.{◌≡◌, ℕ, zero, suc, ◌+◌, ◌*◌, ◌/�
 use Rattle.std.proofs.lemmas.Bool.{cases_eq, cases_Bool, eq-eqb, ne_eqb}
 use Rattle.std.proofs.lemmas.List.{get_or-set_same, get_or-set_other, length-set}
 use Rattle.std.proofs.lemmas.List.Sums.{count_by_more_yes, count_by_more_no}
-use Rattle.std.proofs.Math.Nat.{mul-div_cancel_left, zero-div}
+use Rattle.std.proofs.Math.Nat.{mul-div_cancel_left}
 use Rattle.pm_perm.specs.Count.{count_below}
 use Rattle.pm_perm.specs.Cycles.{leader}
 use Rattle.pm_perm.proofs.Counts.{count_below-same, count_below-le}
@@ -84,13 +84,13 @@ degrees_are s degrees is long sizes degree =
     (λ k less. ap (λ (n : ℕ). nat_eq n degree) (sym ((degree_counts_darts s k (slice_index degrees k) is less).0 (sizes k less))))
 
 -- the vertices of a degree, in a structure with darts
-with_darts : (s : Structure) (degree : ℕ) → (s.darts ≡ 0 → ⊥) → vertices_of_degree s degree ≡ count_below (λ d. nat_eq (leader s.darts s.next d) d && nat_eq (degree_of s d) degree) s.darts
+pub with_darts : (s : Structure) (degree : ℕ) → (s.darts ≡ 0 → ⊥) → vertices_of_degree s degree ≡ count_below (λ d. nat_eq (leader s.darts s.next d) d && nat_eq (degree_of s d) degree) s.darts
 with_darts s degree some = let test = ne_eqb s.darts 0 some in rw test refl
 
-without_darts : (s : Structure) (degree : ℕ) → s.darts ≡ 0 → 0 < degree → vertices_of_degree s degree ≡ 0
+pub without_darts : (s : Structure) (degree : ℕ) → s.darts ≡ 0 → 0 < degree → vertices_of_degree s degree ≡ 0
 without_darts s degree none some = let test = eq-eqb s.darts 0 none in let other = ne_eqb degree 0 (λ e. absurd (omega arith)) in rw (test, other) refl
 
-one_vertex : (s : Structure) → s.darts ≡ 0 → vertices_of_degree s 0 ≡ 1
+pub one_vertex : (s : Structure) → s.darts ≡ 0 → vertices_of_degree s 0 ≡ 1
 one_vertex s none = let test = eq-eqb s.darts 0 none in rw test refl
 
 -- no dart is at a vertex of degree 0
@@ -99,7 +99,7 @@ none_at_zero s is = sym (darts_at_degree s 0 is) ∙ times_zero (count_below (λ
   times_zero : (n : ℕ) → 0 * n ≡ 0
   times_zero n = omega arith
 
-none_of_zero : (s : Structure) → IsStructure s → (s.darts ≡ 0 → ⊥) → vertices_of_degree s 0 ≡ 0
+pub none_of_zero : (s : Structure) → IsStructure s → (s.darts ≡ 0 → ⊥) → vertices_of_degree s 0 ≡ 0
 none_of_zero s is some =
     let few = count_below-le (λ d. nat_eq (leader s.darts s.next d) d && nat_eq (degree_of s d) 0) (λ d. nat_eq (degree_of s d) 0) s.darts (λ k less both. and_second (nat_eq (leader s.darts s.next k) k) (nat_eq (degree_of s k) 0) both) in
     with_darts s 0 some ∙ zero_of (count_below (λ d. nat_eq (leader s.darts s.next d) d && nat_eq (degree_of s d) 0) s.darts) (count_below (λ d. nat_eq (degree_of s d) 0) s.darts) few (none_at_zero s is) where
@@ -110,16 +110,24 @@ none_of_zero s is some =
       zero_of : (few many : ℕ) → few ≤ many → many ≡ 0 → few ≡ 0
       zero_of few many h e = omega (arith, h, e)
 
+-- the darts at vertices of a degree are the degree times these vertices
+pub times_vertices : (s : Structure) (degree : ℕ) → IsStructure s → degree * vertices_of_degree s degree ≡ count_below (λ d. nat_eq (degree_of s d) degree) s.darts
+times_vertices s degree is = elim (cases_eq s.darts 0) [
+  | inl none ↦ elim (cases_eq degree 0) [
+    | inl zero_is ↦ ap (λ (n : ℕ). n * vertices_of_degree s degree) zero_is ∙ nothing (vertices_of_degree s degree) ∙ sym (ap (count_below (λ d. nat_eq (degree_of s d) degree)) none)
+    | inr some ↦ ap (λ (n : ℕ). degree * n) (without_darts s degree none (omega (arith, some))) ∙ nothing_times degree ∙ sym (ap (count_below (λ d. nat_eq (degree_of s d) degree)) none)
+  ]
+  | inr some ↦ ap (λ (n : ℕ). degree * n) (with_darts s degree some) ∙ darts_at_degree s degree is
+] where
+  nothing : (n : ℕ) → 0 * n ≡ 0
+  nothing n = omega arith
+
+  nothing_times : (n : ℕ) → n * 0 ≡ 0
+  nothing_times n = omega arith
+
 -- what the table gets at a degree from 1 on
 part_of : (s : Structure) (degree : ℕ) (count : ℕ) → IsStructure s → 0 < degree → count ≡ count_below (λ d. nat_eq (degree_of s d) degree) s.darts → count / degree ≡ vertices_of_degree s degree
-part_of s degree count is some e = elim (cases_eq s.darts 0) [
-  | inl none ↦
-      let nothing : count ≡ 0 = e ∙ ap (count_below (λ d. nat_eq (degree_of s d) degree)) none in
-      ap (λ (n : ℕ). n / degree) nothing ∙ zero-div degree ∙ sym (without_darts s degree none some)
-  | inr has ↦
-      ap (λ (n : ℕ). n / degree) (e ∙ sym (darts_at_degree s degree is))
-      ∙ mul-div_cancel_left (count_below (λ d. nat_eq (leader s.darts s.next d) d && nat_eq (degree_of s d) degree) s.darts) some ∙ sym (with_darts s degree has)
-]
+part_of s degree count is some e = ap (λ (n : ℕ). n / degree) (e ∙ sym (times_vertices s degree is)) ∙ mul-div_cancel_left (vertices_of_degree s degree) some
 
 pub vertex_counts : (s : Structure) (greatest : ℕ) (degrees table : List ℕ) → IsStructure s → length degrees ≡ s.darts → AreCycleSizes s.next degrees s.darts
     → length table ≡ suc greatest → IsTableOf degrees table → AreVertexCounts s greatest table
