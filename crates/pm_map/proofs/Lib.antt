@@ -7,6 +7,7 @@ pub mod CycleSizes
 pub mod DegreeCounts
 pub mod DegreeRules
 pub mod DegreeTotals
+pub mod DegreesTaken
 pub mod FaceLemmas
 pub mod FaceWalkLemmas
 pub mod MarksLemmas
