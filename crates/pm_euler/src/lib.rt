@@ -5,6 +5,7 @@ mod anew;
 mod bounds;
 mod closing;
 mod map_class;
+mod map_profile;
 mod planting;
 mod quartic;
 mod sample;
