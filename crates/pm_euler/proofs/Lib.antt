@@ -3,6 +3,7 @@ pub mod ClosedMaps
 pub mod EulerianMaps
 pub mod FilledRows
 pub mod FreeLeaves
+pub mod ObjectLemmas
 pub mod ObjectSums
 pub mod OneSample
 pub mod PlaneLaws
