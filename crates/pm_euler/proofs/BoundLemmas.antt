@@ -13,7 +13,7 @@ growth_positive : (grown n : ℕ) → All (λ bound. 1 ≤ bound) (growth_bounds
 growth_positive grown zero = All-nil (λ (bound : ℕ). 1 ≤ bound)
 growth_positive grown (suc n) = All-cons (λ (bound : ℕ). 1 ≤ bound) (2 * (2 * grown + 1)) (growth_bounds (suc grown) n) (omega arith) (growth_positive (suc grown) n)
 
-code_positive : (n : ℕ) → All (λ bound. 1 ≤ bound) (code_bounds n)
+pub code_positive : (n : ℕ) → All (λ bound. 1 ≤ bound) (code_bounds n)
 code_positive zero = All-nil (λ (bound : ℕ). 1 ≤ bound)
 code_positive (suc n) = All-cons (λ (bound : ℕ). 1 ≤ bound) (suc n) (code_bounds n) (omega arith) (code_positive n)
 

@@ -1,5 +1,6 @@
 pub mod BoundLemmas
 pub mod ClosedMaps
+pub mod EulerianBounds
 pub mod EulerianMaps
 pub mod FilledRows
 pub mod FreeLeaves

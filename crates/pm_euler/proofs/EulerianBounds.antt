@@ -1,0 +1,183 @@
+-- The bounds of the choices and the residues of Eulerian maps are bounds, and what is below them.
+use Rattle.std.proofs.Common.{◌≡◌, ℕ, zero, suc, ◌+◌, ◌-◌, ◌*◌, ◌/◌, ◌<◌, ◌≤◌, List, [], ◌∷◌, ◌++◌, length, length-append, length-take, length-drop, take, drop, map, refl, sym, ◌∙◌, ap, arith}
+use Rattle.std.specs.Prelude.{slice_index, All, flat_map, count_by, ◌==◌}
+use Rattle.std.proofs.Math.ListN.{get_or-append}
+use Rattle.std.proofs.lemmas.List.{get_or-append_right, get_or-take, get_or-drop, get_or-map, length-map}
+use Rattle.std.proofs.lemmas.List.Elements.{All-append, All-map, All-weaker, All-nil, All-cons}
+use Rattle.std.proofs.lemmas.List.Sums.{length-filter}
+use Rattle.pm_lists.specs.Valid.{AreBounds, IsValidList}
+use Rattle.pm_lehmer.specs.Lehmer.{code_of, IsArrangementCode}
+use Rattle.pm_lehmer.proofs.Arranged.{length-code_of, code_of-is_code}
+use Rattle.pm_trees.specs.Binomial.{choose}
+use Rattle.pm_trees.specs.BudPattern.{IsHalfDegree}
+use Rattle.pm_trees.specs.Pairs.{IsProfile, edges_of, pair_at}
+use Rattle.pm_trees.proofs.Binomials.{choose_none, pascal}
+use Rattle.pm_euler.specs.Objects.{halves_of, nodes_of_profile, half_of, objects_of}
+use Rattle.pm_euler.specs.Bounds.{code_bounds, eulerian_choices, eulerian_residues}
+use Rattle.pm_euler.specs.Eulerian.{codes_by_degree}
+use Rattle.pm_euler.proofs.BoundLemmas.{code_positive, length-code_bounds, code_bound}
+use Rattle.pm_euler.proofs.ObjectLemmas.{halves_are, HasObjects}
+
+choose_some : (n k : ℕ) → k ≤ n → 0 < choose n k
+choose_some n zero few = let a = choose_none n in omega (arith, a)
+choose_some zero (suc k) few = absurd (omega arith)
+choose_some (suc n) (suc k) few = let a = pascal n k in let h = choose_some n k (omega arith) in omega (arith, a, h)
+
+patterns_some : (half : ℕ) → IsHalfDegree half → 1 ≤ choose (2 * half - 1) half
+patterns_some half is = let h = choose_some (2 * half - 1) half (let some = is.some in omega arith) in omega (arith, h)
+
+pub eulerian_choices_are : (pairs : List (ℕ × ℕ)) → IsProfile pairs → AreBounds (eulerian_choices pairs)
+eulerian_choices_are pairs is = record {
+  each =
+      All-append (λ (bound : ℕ). 1 ≤ bound) (code_bounds (suc (edges_of pairs)) ++ map (λ half. choose (2 * half - 1) half) (halves_of pairs)) (2 ∷ [])
+      (All-append (λ (bound : ℕ). 1 ≤ bound) (code_bounds (suc (edges_of pairs))) (map (λ half. choose (2 * half - 1) half) (halves_of pairs)) (code_positive (suc (edges_of pairs)))
+      (All-map (λ (bound : ℕ). 1 ≤ bound) (λ half. choose (2 * half - 1) half) (halves_of pairs)
+      (All-weaker IsHalfDegree (λ half. 1 ≤ choose (2 * half - 1) half) patterns_some (halves_of pairs) (halves_are pairs is))))
+      (All-cons (λ (bound : ℕ). 1 ≤ bound) 2 [] (omega arith) (All-nil (λ (bound : ℕ). 1 ≤ bound)));
+}
+
+codes_positive : (pairs : List (ℕ × ℕ)) → All (λ bound. 1 ≤ bound) (flat_map (λ (p : ℕ × ℕ). code_bounds p.1) pairs)
+codes_positive [] = All-nil (λ (bound : ℕ). 1 ≤ bound)
+codes_positive (p ∷ pairs) = All-append (λ (bound : ℕ). 1 ≤ bound) (code_bounds p.1) (flat_map (λ (p : ℕ × ℕ). code_bounds p.1) pairs) (code_positive p.1) (codes_positive pairs)
+
+pub eulerian_residues_are : (pairs : List (ℕ × ℕ)) → IsProfile pairs → AreBounds (eulerian_residues pairs)
+eulerian_residues_are pairs is =
+    let leaves : ℕ = suc (edges_of pairs) - nodes_of_profile pairs in
+    record {
+      each =
+          All-cons (λ (bound : ℕ). 1 ≤ bound) (suc (edges_of pairs)) (flat_map (λ (p : ℕ × ℕ). code_bounds p.1) pairs ++ code_bounds leaves ++ suc leaves ∷ []) (omega arith)
+          (All-append (λ (bound : ℕ). 1 ≤ bound) (flat_map (λ (p : ℕ × ℕ). code_bounds p.1) pairs ++ code_bounds leaves) (suc leaves ∷ [])
+          (All-append (λ (bound : ℕ). 1 ≤ bound) (flat_map (λ (p : ℕ × ℕ). code_bounds p.1) pairs) (code_bounds leaves) (codes_positive pairs) (code_positive leaves))
+          (All-cons (λ (bound : ℕ). 1 ≤ bound) (suc leaves) [] (omega arith) (All-nil (λ (bound : ℕ). 1 ≤ bound))));
+    }
+
+-- the three parts of the choices
+pub length-eulerian_choices : (pairs : List (ℕ × ℕ)) → length (eulerian_choices pairs) ≡ suc (edges_of pairs) + nodes_of_profile pairs + 1
+length-eulerian_choices pairs =
+    let e : ℕ = edges_of pairs in
+    omega (
+      arith,
+      length-append (code_bounds (suc e) ++ map (λ half. choose (2 * half - 1) half) (halves_of pairs)) (2 ∷ []),
+      length-append (code_bounds (suc e)) (map (λ half. choose (2 * half - 1) half) (halves_of pairs)),
+      length-code_bounds (suc e),
+      length-map (halves_of pairs) (λ half. choose (2 * half - 1) half),
+    )
+
+long_front : (pairs : List (ℕ × ℕ)) → length (code_bounds (suc (edges_of pairs)) ++ map (λ half. choose (2 * half - 1) half) (halves_of pairs)) ≡ suc (edges_of pairs) + nodes_of_profile pairs
+long_front pairs =
+    omega (
+      arith,
+      length-append (code_bounds (suc (edges_of pairs))) (map (λ half. choose (2 * half - 1) half) (halves_of pairs)),
+      length-code_bounds (suc (edges_of pairs)),
+      length-map (halves_of pairs) (λ half. choose (2 * half - 1) half),
+    )
+
+choice_of_code : (pairs : List (ℕ × ℕ)) (k : ℕ) → k < suc (edges_of pairs) → slice_index (eulerian_choices pairs) k ≡ suc (edges_of pairs) - k
+choice_of_code pairs k less =
+    let a = length-code_bounds (suc (edges_of pairs)) in
+    let b = long_front pairs in
+    get_or-append (code_bounds (suc (edges_of pairs)) ++ map (λ half. choose (2 * half - 1) half) (halves_of pairs)) (2 ∷ []) 0 k (omega arith)
+    ∙ get_or-append (code_bounds (suc (edges_of pairs))) (map (λ half. choose (2 * half - 1) half) (halves_of pairs)) 0 k (omega arith) ∙ code_bound (suc (edges_of pairs)) k less
+
+choice_of_rank : (pairs : List (ℕ × ℕ)) (k : ℕ) → k < nodes_of_profile pairs
+    → slice_index (eulerian_choices pairs) (suc (edges_of pairs) + k) ≡ choose (2 * slice_index (halves_of pairs) k - 1) (slice_index (halves_of pairs) k)
+choice_of_rank pairs k less =
+    let a = length-code_bounds (suc (edges_of pairs)) in
+    let b = long_front pairs in
+    let e : suc (edges_of pairs) + k - suc (edges_of pairs) ≡ k = omega arith in
+    get_or-append (code_bounds (suc (edges_of pairs)) ++ map (λ half. choose (2 * half - 1) half) (halves_of pairs)) (2 ∷ []) 0 (suc (edges_of pairs) + k) (omega arith)
+    ∙ get_or-append_right (code_bounds (suc (edges_of pairs))) (map (λ half. choose (2 * half - 1) half) (halves_of pairs)) (suc (edges_of pairs)) (suc (edges_of pairs) + k) 0 a (omega arith)
+    ∙ ap (slice_index (map (λ half. choose (2 * half - 1) half) (halves_of pairs))) e
+    ∙ get_or-map (λ half. choose (2 * half - 1) half) (halves_of pairs) k 0 0 less
+
+choice_of_free : (pairs : List (ℕ × ℕ)) → slice_index (eulerian_choices pairs) (suc (edges_of pairs) + nodes_of_profile pairs) ≡ 2
+choice_of_free pairs =
+    let place : ℕ = suc (edges_of pairs) + nodes_of_profile pairs in
+    let b = long_front pairs in
+    let e : place - place ≡ 0 = omega arith in
+    get_or-append_right (code_bounds (suc (edges_of pairs)) ++ map (λ half. choose (2 * half - 1) half) (halves_of pairs)) (2 ∷ []) place place 0 b (omega arith) ∙ ap (slice_index (2 ∷ [])) e
+
+-- what valid choices are, part by part
+pub arrangement_long : (pairs : List (ℕ × ℕ)) (choices : List ℕ) → IsValidList choices (eulerian_choices pairs) → length (take (suc (edges_of pairs)) choices) ≡ suc (edges_of pairs)
+arrangement_long pairs choices valid =
+    let long : length choices ≡ suc (edges_of pairs) + nodes_of_profile pairs + 1 = valid.as_long ∙ length-eulerian_choices pairs in
+    simp length-take (omega arith)
+
+pub arrangement_is_valid : (pairs : List (ℕ × ℕ)) (choices : List ℕ) → IsValidList choices (eulerian_choices pairs) → IsArrangementCode (take (suc (edges_of pairs)) choices)
+arrangement_is_valid pairs choices valid = record {
+  below = λ place inside.
+      let long : length choices ≡ suc (edges_of pairs) + nodes_of_profile pairs + 1 = valid.as_long ∙ length-eulerian_choices pairs in
+      let few = arrangement_long pairs choices valid in
+      let within : place < suc (edges_of pairs) = omega arith in
+      omega (arith, few, get_or-take (suc (edges_of pairs)) choices place 0 within, choice_of_code pairs place within, valid.below place (omega arith));
+}
+
+pub ranks_long : (pairs : List (ℕ × ℕ)) (choices : List ℕ) → IsValidList choices (eulerian_choices pairs) → length (take (nodes_of_profile pairs) (drop (suc (edges_of pairs)) choices)) ≡ nodes_of_profile pairs
+ranks_long pairs choices valid =
+    let long : length choices ≡ suc (edges_of pairs) + nodes_of_profile pairs + 1 = valid.as_long ∙ length-eulerian_choices pairs in
+    simp (length-take, length-drop) (omega arith)
+
+pub rank_is_valid : (pairs : List (ℕ × ℕ)) (choices : List ℕ) (k : ℕ) → IsValidList choices (eulerian_choices pairs) → k < nodes_of_profile pairs
+    → slice_index (take (nodes_of_profile pairs) (drop (suc (edges_of pairs)) choices)) k < choose (2 * slice_index (halves_of pairs) k - 1) (slice_index (halves_of pairs) k)
+rank_is_valid pairs choices k valid less =
+    let long : length choices ≡ suc (edges_of pairs) + nodes_of_profile pairs + 1 = valid.as_long ∙ length-eulerian_choices pairs in
+    omega (
+      arith,
+      get_or-take (nodes_of_profile pairs) (drop (suc (edges_of pairs)) choices) k 0 less,
+      get_or-drop (suc (edges_of pairs)) choices k 0,
+      choice_of_rank pairs k less,
+      valid.below (suc (edges_of pairs) + k) (omega arith),
+    )
+
+pub free_is_valid : (pairs : List (ℕ × ℕ)) (choices : List ℕ) → IsValidList choices (eulerian_choices pairs) → slice_index choices (suc (edges_of pairs) + nodes_of_profile pairs) < 2
+free_is_valid pairs choices valid =
+    let long : length choices ≡ suc (edges_of pairs) + nodes_of_profile pairs + 1 = valid.as_long ∙ length-eulerian_choices pairs in
+    omega (arith, choice_of_free pairs, valid.below (suc (edges_of pairs) + nodes_of_profile pairs) (omega arith))
+
+-- valid lists one after another
+valid_cons : (value bound : ℕ) (values bounds : List ℕ) → value < bound → IsValidList values bounds → IsValidList (value ∷ values) (bound ∷ bounds)
+valid_cons value bound values bounds low valid = record { as_long = ap suc valid.as_long; below = each } where
+  each : (place : ℕ) → place < suc (length values) → slice_index (value ∷ values) place < slice_index (bound ∷ bounds) place
+  each zero less = low
+  each (suc k) less = valid.below k (omega arith)
+
+valid_append : (values more bounds others : List ℕ) → IsValidList values bounds → IsValidList more others → IsValidList (values ++ more) (bounds ++ others)
+valid_append [] more [] others first second = second
+valid_append [] more (bound ∷ bounds) others first second = absurd (let e = first.as_long in omega arith)
+valid_append (value ∷ values) more [] others first second = absurd (let e = first.as_long in omega arith)
+valid_append (value ∷ values) more (bound ∷ bounds) others first second =
+    let e = first.as_long in
+    valid_cons value bound (values ++ more) (bounds ++ others) (first.below 0 (omega arith))
+    (valid_append values more bounds others (record { as_long = omega arith; below = λ k less. first.below (suc k) (omega arith) }) second)
+
+-- a code is valid for the bounds of its length
+valid_code : (n : ℕ) (entries : List ℕ) → length entries ≡ n → IsValidList (code_of entries) (code_bounds n)
+valid_code n entries long =
+    let same = length-code_of entries in
+    let is = code_of-is_code entries in
+    record {
+      as_long = same ∙ long ∙ sym (length-code_bounds n);
+      below = λ k less. (let bound = code_bound n k (omega arith) in let here = is.below k less in omega arith);
+    }
+
+-- the codes of the degrees, one after another
+valid_codes : (halves objects : List ℕ) (pairs : List (ℕ × ℕ)) → ((k : ℕ) → k < length pairs → count_by (λ object. half_of halves object == (pair_at pairs k).0 / 2) objects ≡ (pair_at pairs k).1)
+    → IsValidList (flat_map (λ (p : ℕ × ℕ). code_of (objects_of halves (p.0 / 2) objects)) pairs) (flat_map (λ (p : ℕ × ℕ). code_bounds p.1) pairs)
+valid_codes halves objects [] counted = record { as_long = refl; below = λ k less. absurd (omega arith) }
+valid_codes halves objects (p ∷ pairs) counted =
+    valid_append (code_of (objects_of halves (p.0 / 2) objects)) (flat_map (λ (p : ℕ × ℕ). code_of (objects_of halves (p.0 / 2) objects)) pairs) (code_bounds p.1) (flat_map (λ (p : ℕ × ℕ). code_bounds p.1) pairs)
+    (valid_code p.1 (objects_of halves (p.0 / 2) objects) (length-filter (λ object. half_of halves object == p.0 / 2) objects ∙ counted 0 (omega arith)))
+    (valid_codes halves objects pairs (λ k less. counted (suc k) (omega arith)))
+
+pub eulerian_residue_is_valid : (pairs : List (ℕ × ℕ)) (objects : List ℕ) (start old_plant : ℕ) → IsProfile pairs → HasObjects pairs objects → start < suc (edges_of pairs)
+    → old_plant < suc (suc (edges_of pairs) - nodes_of_profile pairs) → IsValidList (start ∷ (codes_by_degree pairs objects ++ old_plant ∷ [])) (eulerian_residues pairs)
+eulerian_residue_is_valid pairs objects start old_plant is has low few =
+    let leaves : ℕ = suc (edges_of pairs) - nodes_of_profile pairs in
+    let nodes_code : List ℕ = flat_map (λ (p : ℕ × ℕ). code_of (objects_of (halves_of pairs) (p.0 / 2) objects)) pairs in
+    let leaves_code : List ℕ = code_of (objects_of (halves_of pairs) 0 objects) in
+    let nodes_bounds : List ℕ = flat_map (λ (p : ℕ × ℕ). code_bounds p.1) pairs in
+    valid_cons start (suc (edges_of pairs)) (nodes_code ++ leaves_code ++ old_plant ∷ []) (nodes_bounds ++ code_bounds leaves ++ suc leaves ∷ []) low
+    (valid_append (nodes_code ++ leaves_code) (old_plant ∷ []) (nodes_bounds ++ code_bounds leaves) (suc leaves ∷ [])
+    (valid_append nodes_code leaves_code nodes_bounds (code_bounds leaves) (valid_codes (halves_of pairs) objects pairs has.of_pair)
+    (valid_code leaves (objects_of (halves_of pairs) 0 objects) (length-filter (λ object. half_of (halves_of pairs) object == 0) objects ∙ has.of_leaves)))
+    (valid_cons old_plant (suc leaves) [] [] few (record { as_long = refl; below = λ k less. absurd (omega arith) })))
