@@ -1,6 +1,6 @@
 -- The objects of a profile: half degrees, their sum and number, the word of an arrangement, and how many objects have which
 -- half degree.
-use Rattle.std.proofs.Common.{◌≡◌, ℕ, zero, suc, ◌+◌, ◌-◌, ◌*◌, ◌/◌, ◌%◌, ◌<◌, ◌≤◌, Bool, cond, inl, inr, List, [], ◌∷◌, length, get_or, replicate, refl, ap, sym, ◌∙◌, subst, arith, length-append, ℤ, pos, negsuc, ◌+ℤ◌, neg_ℤ, ◌≤ℤ◌, eq-eqb, ne_eqb}
+use Rattle.std.proofs.Common.{◌≡◌, ℕ, zero, suc, ◌+◌, ◌-◌, ◌*◌, ◌/◌, ◌%◌, ◌<◌, ◌≤◌, Bool, cond, inl, inr, List, [], ◌∷◌, length, get_or, replicate, take, take_all, refl, ap, sym, ◌∙◌, subst, arith, length-append, ℤ, pos, negsuc, ◌+ℤ◌, neg_ℤ, ◌≤ℤ◌, eq-eqb, ne_eqb}
 use Rattle.std.specs.Prelude.{All, sum, count_by, ◌==◌}
 use Rattle.std.specs.List.{sum_by}
 use Rattle.std.proofs.lemmas.Int.{ints}
@@ -8,7 +8,8 @@ use Rattle.std.proofs.lemmas.Bool.{cases_eq, cases_order}
 use Rattle.std.proofs.lemmas.List.{length-map, length-replicate, get_or-map}
 use Rattle.std.proofs.lemmas.List.Elements.{All-append, All-replicate, All-nil, All-head, All-tail}
 use Rattle.std.proofs.lemmas.List.Folds.{sum_by-replicate}
-use Rattle.std.proofs.lemmas.List.Sums.{sum_by-append, sum_by-cons}
+use Rattle.std.proofs.lemmas.List.Sums.{sum_by-append, sum_by-cons, sum_by_more_le}
+use Rattle.pm_limits.specs.declared.TheConstants.{MAX_EDGES}
 use Rattle.pm_perm.specs.Permutation.{IsPermutationList}
 use Rattle.pm_words.specs.Word.{IsWord, sum_of, turned}
 use Rattle.pm_words.specs.Plane.{letter_of}
@@ -232,3 +233,16 @@ arranged_objects pairs start arrangement objects is permutation long turned_is =
     at half =
         ap (λ (xs : List ℕ). count_by (λ object. half_of (halves_of pairs) object == half) xs) turned_is
         ∙ counted_objects (halves_of pairs) half start arrangement permutation (let h = halves_few pairs is in omega arith)
+
+-- what the walks along the pairs keep and end with
+pub edges_within : (pairs : List (ℕ × ℕ)) (i : ℕ) → IsProfile pairs → i < length pairs → sum_by (λ (p : ℕ × ℕ). p.1 * (p.0 / 2)) (take i pairs) + (pair_at pairs i).1 * ((pair_at pairs i).0 / 2) ≤ MAX_EDGES
+edges_within pairs i is less = omega (arith, sum_by_more_le (λ (p : ℕ × ℕ). p.1 * (p.0 / 2)) pairs i (0, 0) less, edges_by_halves pairs is, is.few)
+
+pub edges_counted : (pairs : List (ℕ × ℕ)) (i edges : ℕ) → IsProfile pairs → length pairs ≤ i → edges ≡ sum_by (λ (p : ℕ × ℕ). p.1 * (p.0 / 2)) (take i pairs) → edges ≡ edges_of pairs
+edges_counted pairs i edges is past e = e ∙ ap (sum_by (λ (p : ℕ × ℕ). p.1 * (p.0 / 2))) (take_all i pairs past) ∙ edges_by_halves pairs is
+
+pub nodes_within : (pairs : List (ℕ × ℕ)) (i : ℕ) → IsProfile pairs → i < length pairs → sum_by (λ (p : ℕ × ℕ). p.1) (take i pairs) + (pair_at pairs i).1 ≤ MAX_EDGES
+nodes_within pairs i is less = omega (arith, sum_by_more_le (λ (p : ℕ × ℕ). p.1) pairs i (0, 0) less, nodes_by_pairs pairs, halves_few pairs is, is.few)
+
+pub nodes_counted : (pairs : List (ℕ × ℕ)) (i nodes : ℕ) → length pairs ≤ i → nodes ≡ sum_by (λ (p : ℕ × ℕ). p.1) (take i pairs) → nodes ≡ nodes_of_profile pairs
+nodes_counted pairs i nodes past e = e ∙ ap (sum_by (λ (p : ℕ × ℕ). p.1)) (take_all i pairs past) ∙ sym (nodes_by_pairs pairs)

@@ -6,6 +6,7 @@ mod bounds;
 mod closing;
 mod map_class;
 mod map_profile;
+mod objects;
 mod planting;
 mod quartic;
 mod sample;
