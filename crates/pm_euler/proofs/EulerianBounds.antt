@@ -1,8 +1,8 @@
 -- The bounds of the choices and the residues of Eulerian maps are bounds, and what is below them.
-use Rattle.std.proofs.Common.{◌≡◌, ℕ, zero, suc, ◌+◌, ◌-◌, ◌*◌, ◌/◌, ◌<◌, ◌≤◌, List, [], ◌∷◌, ◌++◌, length, length-append, length-take, length-drop, take, drop, map, refl, sym, ◌∙◌, ap, arith}
+use Rattle.std.proofs.Common.{◌≡◌, ℕ, zero, suc, ◌+◌, ◌-◌, ◌*◌, ◌/◌, ◌<◌, ◌≤◌, List, [], ◌∷◌, ◌++◌, length, length-append, length-take, length-drop, take, replicate, append_assoc, drop, map, refl, sym, ◌∙◌, ap, arith}
 use Rattle.std.specs.Prelude.{slice_index, All, flat_map, count_by, ◌==◌}
 use Rattle.std.proofs.Math.ListN.{get_or-append}
-use Rattle.std.proofs.lemmas.List.{get_or-append_right, get_or-take, get_or-drop, get_or-map, length-map}
+use Rattle.std.proofs.lemmas.List.{flat_map_more, take_more, map-append, get_or-append_right, get_or-take, get_or-drop, get_or-map, length-map}
 use Rattle.std.proofs.lemmas.List.Elements.{All-append, All-map, All-weaker, All-nil, All-cons}
 use Rattle.std.proofs.lemmas.List.Sums.{length-filter}
 use Rattle.pm_lists.specs.Valid.{AreBounds, IsValidList}
@@ -50,6 +50,25 @@ eulerian_residues_are pairs is =
           (All-append (λ (bound : ℕ). 1 ≤ bound) (flat_map (λ (p : ℕ × ℕ). code_bounds p.1) pairs) (code_bounds leaves) (codes_positive pairs) (code_positive leaves))
           (All-cons (λ (bound : ℕ). 1 ≤ bound) (suc leaves) [] (omega arith) (All-nil (λ (bound : ℕ). 1 ≤ bound))));
     }
+
+-- the bounds of the patterns of one pair more
+map-replicate : (f : ℕ → ℕ) (n x : ℕ) → map f (replicate n x) ≡ replicate n (f x)
+map-replicate f zero x = refl
+map-replicate f (suc n) x = ap (λ (ys : List ℕ). f x ∷ ys) (map-replicate f n x)
+
+pub patterns_more : (pairs : List (ℕ × ℕ)) (i : ℕ) (front limits after : List ℕ) → i < length pairs → limits ≡ front ++ map (λ half. choose (2 * half - 1) half) (halves_of (take i pairs))
+    → after ≡ limits ++ replicate (pair_at pairs i).1 (choose (2 * ((pair_at pairs i).0 / 2) - 1) ((pair_at pairs i).0 / 2))
+    → after ≡ front ++ map (λ half. choose (2 * half - 1) half) (halves_of (take (i + 1) pairs))
+patterns_more pairs i front limits after less before e =
+    let patterns : ℕ → ℕ = λ half. choose (2 * half - 1) half in
+    let nodes : ℕ × ℕ → List ℕ = λ p. replicate p.1 (p.0 / 2) in
+    let here : List ℕ = nodes (pair_at pairs i) in
+    let halves : halves_of (take i pairs) ++ here ≡ halves_of (take (i + 1) pairs) = flat_map_more nodes [] (take i pairs) (pair_at pairs i) ∙ ap halves_of (sym (take_more pairs i (0, 0) less)) in
+    e
+    ∙ ap (λ (xs : List ℕ). limits ++ xs) (sym (map-replicate patterns (pair_at pairs i).1 ((pair_at pairs i).0 / 2)))
+    ∙ ap (λ (xs : List ℕ). xs ++ map patterns here) before
+    ∙ append_assoc front (map patterns (halves_of (take i pairs))) (map patterns here)
+    ∙ ap (λ (xs : List ℕ). front ++ xs) (sym (map-append patterns (halves_of (take i pairs)) here) ∙ ap (map patterns) halves)
 
 -- the three parts of the choices
 pub length-eulerian_choices : (pairs : List (ℕ × ℕ)) → length (eulerian_choices pairs) ≡ suc (edges_of pairs) + nodes_of_profile pairs + 1

@@ -1,8 +1,9 @@
-//! The bounds of growths and of arrangement codes.
-ghost use Rattle.std.specs.Prelude.{◌≡◌, ◌+◌, ◌≤◌, ◌∷◌, IfOk};
-ghost use Rattle.pm_limits.specs.declared.TheConstants.{MAX_EDGES};
-ghost use Rattle.pm_euler.specs.Bounds.{growth_bounds, code_bounds};
+//! The bounds of growths, of arrangement codes, and of the choices and the residues of Eulerian maps.
+ghost use Rattle.std.specs.Prelude.{◌≡◌, ◌∷◌, ◌++◌, IfOk, OnOk};
+ghost use Rattle.pm_euler.specs.Bounds.{growth_bounds, code_bounds, eulerian_choices, eulerian_residues};
 
+use crate::objects::{edges_of, nodes_of};
+use pm_trees::{Profile, pattern_count};
 use std::alloc::{AllocError, Global};
 
 /// The bounds of so many choices of a growth.
@@ -16,6 +17,16 @@ pub(crate) fn limits_of_growth(alloc: Global, count: u32) -> Result<Vec<u64>, Al
     Ok(limits)
 }
 
+/// Appends the bounds of an arrangement code of this length.
+fn push_code_limits(limits: &mut Vec<u64>, length: u32) -> Result<(), AllocError>
+    ensures { OnOk result (limits.new.items ≡ limits.old.items ++ code_bounds length) }
+{
+    for place in 0..length {
+        limits.push(u64::from(length - place))?;
+    }
+    Ok(())
+}
+
 /// One bound, and those of an arrangement code of this length.
 pub(crate) fn limits_with_code(
     alloc: Global,
@@ -26,8 +37,44 @@ pub(crate) fn limits_with_code(
 {
     let mut limits = Vec::new(alloc);
     limits.push(first)?;
-    for place in 0..length {
-        limits.push(u64::from(length - place))?;
+    push_code_limits(&mut limits, length)?;
+    Ok(limits)
+}
+
+/// The bounds of the choices of an Eulerian map: an arrangement code of the objects, a bud pattern for each node object,
+/// and one of the two free leaves.
+pub(crate) fn eulerian_choice_limits(
+    alloc: Global,
+    profile: &Profile,
+) -> Result<Vec<u64>, AllocError>
+    ensures { IfOk result (λ limits. limits.items ≡ eulerian_choices profile.now) }
+{
+    let mut limits = Vec::new(alloc);
+    push_code_limits(&mut limits, edges_of(profile) + 1)?;
+    for pair in profile.pairs() {
+        let patterns = vec![in alloc; pattern_count(pair.0 / 2); pair.1 as usize]?;
+        limits.extend_from_slice(&patterns)?;
     }
+    limits.push(2)?;
+    Ok(limits)
+}
+
+/// The bounds of the residue of an Eulerian map: the start of the preorder, an arrangement code for each degree and for the
+/// leaf objects, and which leaf the old plant is.
+pub(crate) fn eulerian_residue_limits(
+    alloc: Global,
+    profile: &Profile,
+) -> Result<Vec<u64>, AllocError>
+    ensures { IfOk result (λ limits. limits.items ≡ eulerian_residues profile.now) }
+{
+    let objects = edges_of(profile) + 1;
+    let leaves = objects - nodes_of(profile);
+    let mut limits = Vec::new(alloc);
+    limits.push(u64::from(objects))?;
+    for pair in profile.pairs() {
+        push_code_limits(&mut limits, pair.1)?;
+    }
+    push_code_limits(&mut limits, leaves)?;
+    limits.push(u64::from(leaves) + 1)?;
     Ok(limits)
 }

@@ -1,6 +1,6 @@
 use Rattle.std.proofs.Common.{◌≡◌, ◌+◌, ◌-◌, ◌<◌, ℕ, suc, List, [], ◌∷◌, ◌++◌, ap, sym, ◌∙◌, append_assoc, arith}
 use Rattle.pm_euler.specs.Bounds.{code_bounds}
-use Rattle.pm_euler.proofs.bounds.limits_with_code.Goals as goal
+use Rattle.pm_euler.proofs.bounds.push_code_limits.Goals as goal
 
 -- one bound more
 more : (limits after whole : List ℕ) (place length : ℕ) → place < length → after ≡ limits ++ (length - place) ∷ [] → limits ++ code_bounds (length - place) ≡ whole
@@ -13,4 +13,4 @@ more limits after whole place length less e h =
     ∙ sym (ap (λ (k : ℕ). limits ++ code_bounds k) left) ∙ h
 
 pub loop-place-preserved : goal.loop-place-preserved
-loop-place-preserved c = more c.loop-place.limits.items c.push-in-loop-place.new.self.items (c.args.first ∷ code_bounds c.args.length) c.loop-place.place c.args.length c.loop-place-test.true (c.in_ok-push-2.ensures.items ∙ ap (λ (k : ℕ). c.loop-place.limits.items ++ k ∷ []) c.from.ensures) c.loop-place.invariant
+loop-place-preserved c = more c.loop-place.limits.items c.push.new.self.items (c.args.limits.now.items ++ code_bounds c.args.length) c.loop-place.place c.args.length c.loop-place-test.true (c.in_ok-push.ensures.items ∙ ap (λ (k : ℕ). c.loop-place.limits.items ++ k ∷ []) c.from.ensures) c.loop-place.invariant

@@ -1,6 +1,0 @@
-use Rattle.std.proofs.Common.{◌≡◌, ◌∷◌, ◌++◌, ◌-◌}
-use Rattle.pm_euler.specs.Bounds.{code_bounds}
-use Rattle.pm_euler.proofs.bounds.limits_with_code.Given as goal
-
-abbrev pub invariant-loop-place : goal.invariant-loop-place
-invariant-loop-place l = l.limits.items ++ code_bounds (l.length - l.place) ≡ l.first ∷ code_bounds l.length
