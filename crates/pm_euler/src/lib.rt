@@ -16,6 +16,8 @@ pub use quartic::Quartic;
 pub use sample::{Sample, SampleRefusal};
 
 #[cfg(test)]
+mod object_tests;
+#[cfg(test)]
 mod planting_tests;
 #[cfg(test)]
 mod tests;
