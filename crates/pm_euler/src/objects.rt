@@ -1,5 +1,5 @@
 //! The objects that a map with a given profile is made of: their half degrees, their word and their codes.
-ghost use Rattle.std.specs.Prelude.{◌≡◌, ◌^◌, ◌<◌, ◌≤◌, ◌++◌, length, All, IfOk};
+ghost use Rattle.std.specs.Prelude.{◌≡◌, ◌^◌, ◌<◌, ◌≤◌, length, All, IfOk};
 ghost use Rattle.pm_limits.specs.declared.TheConstants.{MAX_EDGES};
 ghost use Rattle.pm_lehmer.specs.Lehmer.{code_of};
 ghost use Rattle.pm_words.specs.Plane.{letter_of};
