@@ -1,6 +1,7 @@
 -- Laws of the word of a plane tree with bud patterns: it is that of a blossoming tree, with as many letters, leaves and
 -- nodes of each degree as the tree's objects say.
 use Rattle.std.proofs.Common.{◌≡◌, ℕ, zero, suc, ◌-◌, ◌*◌, ◌/◌, ◌<◌, ◌≤◌, ◌==◌, cond, inl, inr, List, [], ◌∷◌, length, All, count_by, refl, sym, ◌∙◌, arith, eq-eqb, ne_eqb}
+use Rattle.std.proofs.Common.{◌≡◌, ℕ, zero, suc, ◌+◌, ◌-◌, ◌*◌, ◌/◌, ◌%◌, ◌<◌, ◌≤◌, ◌==◌, cond, inl, inr, List, [], ◌∷◌, length, drop, All, count_by, refl, ap, sym, ◌∙◌, subst, arith, eq-eqb, ne_eqb}
 use Rattle.std.proofs.lemmas.Bool.{cases_eq, cases_lt}
 use Rattle.std.proofs.lemmas.List.{get_or_past, length-map}
 use Rattle.std.proofs.lemmas.List.Sums.{sum_by-cons}
@@ -16,6 +17,20 @@ use Rattle.pm_euler.specs.Objects.{half_of}
 use Rattle.pm_euler.specs.PlanePlanted.{IsPlantedPlane}
 use Rattle.pm_euler.proofs.Rows.{object_value, object_value_leaf, object_value_node, total, total-nil, total-cons}
 use Rattle.pm_euler.proofs.RootRows.{root_length, root_leaves, root_weight, root_blossoming, amiss, amiss_is}
+use Rattle.pm_trees.specs.declared.letters.TheConstants.{LEAF, BUD}
+use Rattle.pm_trees.specs.Word.{contour}
+use Rattle.pm_trees.specs.Node.{IsNode, own_letters}
+use Rattle.pm_trees.specs.Blossoming.{IsBlossoming, leaves}
+use Rattle.pm_trees.specs.BudPattern.{IsHalfDegree}
+use Rattle.pm_trees.specs.Degrees.{nodes_of}
+use Rattle.pm_trees.proofs.Tally.{tally, tally_is, tally-nil, tally_yes, tally_no}
+use Rattle.pm_trees.proofs.Dyck.{matched_from_dyck}
+use Rattle.pm_trees.proofs.Weights.{value, value_is, inner_other, weight}
+use Rattle.pm_trees.proofs.Rings.{IsGood, contour_weight, of_degree, of_degree_is, nodes_weight}
+use Rattle.pm_euler.specs.Objects.{half_of}
+use Rattle.pm_euler.specs.PlanePlanted.{IsPlantedPlane}
+use Rattle.pm_euler.proofs.PlantingTrees.{none_inside}
+use Rattle.pm_euler.proofs.PlaneRows.{object_value, object_value_leaf, object_value_node, total, total-nil, total-cons, row_value, row_inner}
 use Rattle.pm_euler.proofs.PlaneTexts.{half_degrees, plane_root_row}
 
 pub plane_planted_length : (halves ranks objects word : List ℕ) → IsPlantedPlane halves ranks objects word → suc (length word) ≡ 2 * (length objects - 1)
@@ -23,6 +38,10 @@ plane_planted_length halves ranks objects word h =
     let l = root_length (half_degrees halves objects) word (plane_root_row halves ranks objects word h) in
     let long = length-map objects (λ object. half_of halves object) in
     omega (arith, l, long)
+    let r = plane_root_row halves ranks objects word h in
+    let a = length-map objects (λ object. half_of halves object) in
+    let b = ap length r.objects_are in
+    omega (arith, a, b, r.as_many, r.row.long)
 
 -- how many objects have this half degree
 tally_objects : (half : ℕ) (halves objects : List ℕ) → tally half (half_degrees halves objects) ≡ count_by (λ object. half_of halves object == half) objects
@@ -50,6 +69,24 @@ plane_planted_leaves halves ranks objects word h =
 -- a sum over the nodes
 plane_weight : (halves ranks objects word : List ℕ) (f : ℕ → ℕ → ℕ) → IsPlantedPlane halves ranks objects word → weight f (contour word) ≡ total f (half_degrees halves objects)
 plane_weight halves ranks objects word f h = root_weight (half_degrees halves objects) word f (plane_root_row halves ranks objects word h)
+    let r = plane_root_row halves ranks objects word h in
+    let a = tally_objects 0 halves objects in
+    let b = ap (tally 0) r.objects_are in
+    let c = tally_no 0 (suc r.buds) r.below (λ e. omega arith) in
+    let d = tally_yes LEAF LEAF word refl in
+    let e = tally_is LEAF (contour word) in
+    omega (arith, a, b, c, d, e, r.row.leaves)
+
+-- a sum over the nodes
+plane_weight : (halves ranks objects word : List ℕ) (f : ℕ → ℕ → ℕ) → IsPlantedPlane halves ranks objects word → weight f (contour word) ≡ total f (half_degrees halves objects)
+plane_weight halves ranks objects word f h =
+    let r = plane_root_row halves ranks objects word h in
+    let a = contour_weight f word in
+    let b = row_value r.entries r.buds r.below word f r.as_many r.row in
+    let c = row_inner r.entries r.buds r.below word f r.row in
+    let d = ap (total f) r.objects_are in
+    let e = total-cons f (suc r.buds) r.below in
+    omega (arith, a, b, c, d, e)
 
 -- 1 at the nodes of the degree
 object_of_degree : (half object_half : ℕ) → 0 < half → object_value (of_degree (2 * half)) object_half ≡ cond (object_half == half) 1 0
@@ -101,6 +138,14 @@ pub plane_planted_no_odd : (halves ranks objects word : List ℕ) (d : ℕ) → 
 plane_planted_no_odd halves ranks objects word d h n =
     nodes_weight word d ∙ plane_weight halves ranks objects word (of_degree d) h ∙ total_none (of_degree d) halves objects (λ object. object_of_no_degree d (half_of halves object) n)
 
+-- 0 at a node of an even degree within the limit that has its buds
+amiss : ℕ → ℕ → ℕ
+amiss d b = d % 2 + (d - MAX_DEGREE) + (2 * suc b - d) + (d - 2 * suc b)
+
+amiss_is : (d b : ℕ) → amiss d b ≡ d % 2 + (d - MAX_DEGREE) + (2 * suc b - d) + (d - 2 * suc b)
+unfolding amiss
+amiss_is d b = refl
+
 object_amiss : (half : ℕ) → half ≤ MAX_DEGREE / 2 → object_value amiss half ≡ 0
 object_amiss zero l = object_value_leaf amiss
 object_amiss (suc buds) l =
@@ -121,3 +166,35 @@ plane_planted_blossoming halves ranks objects word all h few =
     let none = total_none amiss halves objects (λ object. object_amiss (half_of halves object) (half_few halves object all)) in
     let long = length-map objects (λ object. half_of halves object) in
     root_blossoming (half_degrees halves objects) word (plane_root_row halves ranks objects word h) none (omega (arith, long, few))
+good_node : (word : List ℕ) (node : ℕ) → value amiss 1 (drop (suc node) (contour word)) ≡ 0 → IsGood (contour word) node
+good_node word node z =
+    let a = value_is amiss 1 (drop (suc node) (contour word)) in
+    let b = amiss_is (1 + length (own_letters 0 (drop (suc node) (contour word)))) (tally BUD (own_letters 0 (drop (suc node) (contour word)))) in
+    let c = tally_is BUD (own_letters 0 (drop (suc node) (contour word))) in
+    record {
+      degree_is = record { even = omega (arith, a, b, z); few = omega (arith, a, b, z) };
+      buds_are = omega (arith, a, b, c, z);
+    }
+
+good_nodes : (word : List ℕ) → weight amiss (contour word) ≡ 0 → (node : ℕ) → IsNode (contour word) node → IsGood (contour word) node
+good_nodes word z node (inl e) =
+    let a = contour_weight amiss word in
+    let root : value amiss 1 (drop 1 (contour word)) ≡ 0 = omega (arith, a, z) in
+    subst (IsGood (contour word)) (sym e) (good_node word 0 root)
+good_nodes word z node (inr o) =
+    let a = contour_weight amiss word in
+    let b = inner_other amiss LEAF word (λ e. omega arith) in
+    good_node word node (none_inside amiss (contour word) node (omega (arith, a, b, z)) o)
+
+pub plane_planted_blossoming : (halves ranks objects word : List ℕ) → All IsHalfDegree halves → IsPlantedPlane halves ranks objects word → length objects ≤ suc MAX_EDGES → IsBlossoming word
+plane_planted_blossoming halves ranks objects word all h few =
+    let r = plane_root_row halves ranks objects word h in
+    let l = plane_planted_length halves ranks objects word h in
+    let z : weight amiss (contour word) ≡ 0 =
+    plane_weight halves ranks objects word amiss h ∙ total_none amiss halves objects (λ object. object_amiss (half_of halves object) (half_few halves object all)) in
+    record {
+      in_order = record { letters = r.row.letters; matched = matched_from_dyck word r.row.dyck };
+      short = omega (arith, l, few);
+      degrees = λ node n. (good_nodes word z node n).degree_is;
+      buds = λ node n. (good_nodes word z node n).buds_are;
+    }
