@@ -8,7 +8,6 @@ pub mod ObjectLemmas
 pub mod ObjectSums
 pub mod OneSample
 pub mod PlaneLaws
-pub mod PlaneRows
 pub mod PlaneTexts
 pub mod PlantingSteps
 pub mod PlantingTrees

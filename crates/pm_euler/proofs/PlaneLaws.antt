@@ -29,8 +29,8 @@ use Rattle.pm_trees.proofs.Weights.{value, value_is, inner_other, weight}
 use Rattle.pm_trees.proofs.Rings.{IsGood, contour_weight, of_degree, of_degree_is, nodes_weight}
 use Rattle.pm_euler.specs.Objects.{half_of}
 use Rattle.pm_euler.specs.PlanePlanted.{IsPlantedPlane}
-use Rattle.pm_euler.proofs.PlantingTrees.{none_inside}
-use Rattle.pm_euler.proofs.PlaneRows.{object_value, object_value_leaf, object_value_node, total, total-nil, total-cons, row_value, row_inner}
+use Rattle.pm_euler.proofs.Rows.{object_value, object_value_leaf, object_value_node, total, total-nil, total-cons, row_value, row_inner}
+use Rattle.pm_euler.proofs.RootRows.{root_length, root_leaves, root_weight, root_blossoming, amiss, amiss_is}
 use Rattle.pm_euler.proofs.PlaneTexts.{half_degrees, plane_root_row}
 
 pub plane_planted_length : (halves ranks objects word : List ℕ) → IsPlantedPlane halves ranks objects word → suc (length word) ≡ 2 * (length objects - 1)
@@ -79,14 +79,7 @@ plane_weight halves ranks objects word f h = root_weight (half_degrees halves ob
 
 -- a sum over the nodes
 plane_weight : (halves ranks objects word : List ℕ) (f : ℕ → ℕ → ℕ) → IsPlantedPlane halves ranks objects word → weight f (contour word) ≡ total f (half_degrees halves objects)
-plane_weight halves ranks objects word f h =
-    let r = plane_root_row halves ranks objects word h in
-    let a = contour_weight f word in
-    let b = row_value r.entries r.buds r.below word f r.as_many r.row in
-    let c = row_inner r.entries r.buds r.below word f r.row in
-    let d = ap (total f) r.objects_are in
-    let e = total-cons f (suc r.buds) r.below in
-    omega (arith, a, b, c, d, e)
+plane_weight halves ranks objects word f h = root_weight (half_degrees halves objects) word f (plane_root_row halves ranks objects word h)
 
 -- 1 at the nodes of the degree
 object_of_degree : (half object_half : ℕ) → 0 < half → object_value (of_degree (2 * half)) object_half ≡ cond (object_half == half) 1 0
@@ -138,14 +131,6 @@ pub plane_planted_no_odd : (halves ranks objects word : List ℕ) (d : ℕ) → 
 plane_planted_no_odd halves ranks objects word d h n =
     nodes_weight word d ∙ plane_weight halves ranks objects word (of_degree d) h ∙ total_none (of_degree d) halves objects (λ object. object_of_no_degree d (half_of halves object) n)
 
--- 0 at a node of an even degree within the limit that has its buds
-amiss : ℕ → ℕ → ℕ
-amiss d b = d % 2 + (d - MAX_DEGREE) + (2 * suc b - d) + (d - 2 * suc b)
-
-amiss_is : (d b : ℕ) → amiss d b ≡ d % 2 + (d - MAX_DEGREE) + (2 * suc b - d) + (d - 2 * suc b)
-unfolding amiss
-amiss_is d b = refl
-
 object_amiss : (half : ℕ) → half ≤ MAX_DEGREE / 2 → object_value amiss half ≡ 0
 object_amiss zero l = object_value_leaf amiss
 object_amiss (suc buds) l =
@@ -188,13 +173,6 @@ good_nodes word z node (inr o) =
 
 pub plane_planted_blossoming : (halves ranks objects word : List ℕ) → All IsHalfDegree halves → IsPlantedPlane halves ranks objects word → length objects ≤ suc MAX_EDGES → IsBlossoming word
 plane_planted_blossoming halves ranks objects word all h few =
-    let r = plane_root_row halves ranks objects word h in
-    let l = plane_planted_length halves ranks objects word h in
-    let z : weight amiss (contour word) ≡ 0 =
-    plane_weight halves ranks objects word amiss h ∙ total_none amiss halves objects (λ object. object_amiss (half_of halves object) (half_few halves object all)) in
-    record {
-      in_order = record { letters = r.row.letters; matched = matched_from_dyck word r.row.dyck };
-      short = omega (arith, l, few);
-      degrees = λ node n. (good_nodes word z node n).degree_is;
-      buds = λ node n. (good_nodes word z node n).buds_are;
-    }
+    let none = total_none amiss halves objects (λ object. object_amiss (half_of halves object) (half_few halves object all)) in
+    let long = length-map objects (λ object. half_of halves object) in
+    root_blossoming (half_degrees halves objects) word (plane_root_row halves ranks objects word h) none (omega (arith, long, few))

@@ -5,11 +5,9 @@ use Rattle.pm_trees.specs.declared.letters.TheConstants.{LEAF, OPEN, CLOSE}
 -- The text of a plane tree is a row of one letter: a leaf, or a node in its brackets.
 use Rattle.std.proofs.Common.{◌≡◌, ℕ, suc, ◌+◌, ◌*◌, ◌≤◌, ◌==◌, inl, inr, List, [], ◌∷◌, ◌++◌, length, map, refl, ap, sym, ◌∙◌, subst, arith, append-nil, eq-eqb, ne_eqb}
 use Rattle.std.proofs.lemmas.Bool.{cases_eq}
+use Rattle.std.proofs.Common.{◌≡◌, ℕ, suc, ◌+◌, ◌*◌, ◌≤◌, ◌==◌, inl, inr, List, [], ◌∷◌, ◌++◌, length, map, refl, ap, sym, ◌∙◌, subst, arith, append-nil}
 use Rattle.std.proofs.lemmas.List.{map-append}
-use Rattle.std.proofs.lemmas.List.Sums.{count_by-le-length}
-use Rattle.pm_trees.specs.declared.letters.TheConstants.{LEAF, BUD, OPEN, CLOSE}
-use Rattle.pm_trees.specs.BudPattern.{IsPattern}
-use Rattle.pm_trees.proofs.Tally.{tally, tally_is, tally-nil, tally_yes, tally_no}
+use Rattle.pm_trees.specs.declared.letters.TheConstants.{LEAF, OPEN, CLOSE}
 use Rattle.pm_euler.specs.Objects.{half_of}
 use Rattle.pm_euler.specs.Planted.{filled}
 use Rattle.pm_euler.specs.PlanePlanted.{AreSides, IsPlantedPlane}
@@ -80,19 +78,6 @@ half_degrees halves objects = map (λ object. half_of halves object) objects
 half_degrees-append : (halves objects others : List ℕ) → half_degrees halves (objects ++ others) ≡ half_degrees halves objects ++ half_degrees halves others
 half_degrees-append halves objects others = map-append (λ object. half_of halves object) objects others
 
--- a pattern has as many slots as the node has children
-pub record IsFilled (half : ℕ) (pattern : List ℕ) (sides : List (List ℕ)) : Type 0 where
-  pub slots : length sides + tally BUD pattern ≡ length pattern
-  pub entries : suc (length pattern) ≡ 2 * suc (tally BUD pattern)
-  pub budded : suc (tally BUD pattern) ≡ half
-
-is_filled : (half : ℕ) (pattern : List ℕ) (sides : List (List ℕ)) → IsPattern half pattern → length sides ≡ half → IsFilled half pattern sides
-is_filled half pattern sides p e =
-    let t = tally_is BUD pattern in
-    let l = p.as_long in
-    let b = p.budded in
-    record { slots = omega (arith, t, l, b, e); entries = omega (arith, t, l, b); budded = omega (arith, t, b) }
-
 pub sides_rows : (halves ranks objects : List ℕ) (texts : List (List ℕ)) → AreSides halves ranks objects texts → AreRows (half_degrees halves objects) texts
 sides_rows halves ranks _ _ none = no_rows
 sides_rows halves ranks _ _ (leaf object later texts e h) =
@@ -109,18 +94,10 @@ sides_rows halves ranks _ _ (node object under later pattern sides texts s p h e
     let row = filled_row pattern (half_degrees halves under) sides f.slots (sides_rows halves ranks under sides h) in
     let tree = row_node (length pattern) (tally BUD pattern) (half_degrees halves under) (filled pattern sides) f.entries row in
     let text : List ℕ = OPEN ∷ filled pattern sides ++ CLOSE ∷ [] in
-    let here = subst (λ (half : ℕ). IsRow 1 0 (half ∷ half_degrees halves under) text) f.budded tree in
-    let all = one_row (half_of halves object ∷ half_degrees halves under) (half_degrees halves later) text texts here (sides_rows halves ranks later texts k) in
-    subst (λ (w : List ℕ). AreRows (half_of halves object ∷ w) (text ∷ texts)) (sym (half_degrees-append halves under later)) all
-
--- the row of the root node
-pub record IsRootRow (halves objects word : List ℕ) : Type 0 where
-  pub entries : ℕ
-  pub buds : ℕ
-  pub below : List ℕ
-  pub as_many : suc entries ≡ 2 * suc buds
-  pub objects_are : half_degrees halves objects ≡ suc buds ∷ below
-  pub row : IsRow entries buds below word
+    let root = node_row half pattern (half_degrees halves under) sides p.is_pattern e (sides_rows halves ranks under sides h) in
+    let side = root_side (half ∷ half_degrees halves under) (filled pattern sides) root in
+    subst (λ (hs : List ℕ). AreRows (half ∷ hs) (text ∷ texts)) (sym (half_degrees-append halves under later))
+    (one_row (half ∷ half_degrees halves under) (half_degrees halves later) text texts side (sides_rows halves ranks later texts k))
 
 -- no trees have no objects
 no_objects : (halves ranks objects : List ℕ) (texts : List (List ℕ)) → AreSides halves ranks objects texts → texts ≡ [] → objects ≡ []
@@ -157,5 +134,5 @@ pub plane_root_row : (halves ranks objects word : List ℕ) → IsPlantedPlane h
       row = subst (IsRow (length pattern) (tally BUD pattern) (half_degrees halves under)) w.lists row;
     }
 
-pub plane_root_row : (halves ranks objects word : List ℕ) → IsPlantedPlane halves ranks objects word → IsRootRow halves objects word
+pub plane_root_row : (halves ranks objects word : List ℕ) → IsPlantedPlane halves ranks objects word → IsRootRow (half_degrees halves objects) word
 plane_root_row halves ranks objects word h = root_of halves ranks objects ((OPEN ∷ word ++ CLOSE ∷ []) ∷ []) word h refl
