@@ -19,17 +19,15 @@ use Rattle.pm_euler.proofs.Rows.{object_value, object_value_leaf, object_value_n
 use Rattle.pm_euler.proofs.RootRows.{root_length, root_leaves, root_weight, root_blossoming, amiss, amiss_is}
 use Rattle.pm_trees.specs.declared.letters.TheConstants.{LEAF, BUD}
 use Rattle.pm_trees.specs.Word.{contour}
-use Rattle.pm_trees.specs.Node.{IsNode, own_letters}
 use Rattle.pm_trees.specs.Blossoming.{IsBlossoming, leaves}
 use Rattle.pm_trees.specs.BudPattern.{IsHalfDegree}
 use Rattle.pm_trees.specs.Degrees.{nodes_of}
-use Rattle.pm_trees.proofs.Tally.{tally, tally_is, tally-nil, tally_yes, tally_no}
-use Rattle.pm_trees.proofs.Dyck.{matched_from_dyck}
-use Rattle.pm_trees.proofs.Weights.{value, value_is, inner_other, weight}
-use Rattle.pm_trees.proofs.Rings.{IsGood, contour_weight, of_degree, of_degree_is, nodes_weight}
+use Rattle.pm_trees.proofs.Tally.{tally, tally-nil, tally_yes, tally_no}
+use Rattle.pm_trees.proofs.Weights.{weight}
+use Rattle.pm_trees.proofs.Rings.{of_degree, of_degree_is, nodes_weight}
 use Rattle.pm_euler.specs.Objects.{half_of}
 use Rattle.pm_euler.specs.PlanePlanted.{IsPlantedPlane}
-use Rattle.pm_euler.proofs.Rows.{object_value, object_value_leaf, object_value_node, total, total-nil, total-cons, row_value, row_inner}
+use Rattle.pm_euler.proofs.Rows.{object_value, object_value_leaf, object_value_node, total, total-nil, total-cons}
 use Rattle.pm_euler.proofs.RootRows.{root_length, root_leaves, root_weight, root_blossoming, amiss, amiss_is}
 use Rattle.pm_euler.proofs.PlaneTexts.{half_degrees, plane_root_row}
 
