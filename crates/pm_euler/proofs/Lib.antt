@@ -9,6 +9,7 @@ pub mod ObjectSums
 pub mod OneSample
 pub mod PlaneLaws
 pub mod PlaneTexts
+pub mod PlaneTrees
 pub mod PlantingSteps
 pub mod PlantingTrees
 pub mod PlantingWords
