@@ -8,6 +8,7 @@ pub mod ObjectLemmas
 pub mod ObjectSums
 pub mod OneSample
 pub mod PlaneLaws
+pub mod PlaneSteps
 pub mod PlaneTexts
 pub mod PlaneTrees
 pub mod PlantingSteps

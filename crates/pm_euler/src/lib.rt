@@ -7,6 +7,7 @@ mod closing;
 mod map_class;
 mod map_profile;
 mod objects;
+mod plane_planting;
 mod planting;
 mod quartic;
 mod sample;
