@@ -16,6 +16,7 @@ use Rattle.pm_euler.specs.Planted.{filled}
 use Rattle.pm_euler.specs.PlanePlanted.{AreSides, IsPlantedPlane}
 use Rattle.pm_euler.specs.PlanePlanted.AreSides.{none, leaf, node}
 use Rattle.pm_euler.proofs.SideTexts.{same_push}
+use Rattle.pm_euler.proofs.FilledRows.{filled_bud, filled_slot}
 use Rattle.pm_euler.proofs.PlaneTrees.{node_object, plane_planted_exists}
 
 -- the letters with the texts in place of the slots, one after another
@@ -32,18 +33,12 @@ placed_slot : (x : ℕ) (letters text : List ℕ) (texts : List (List ℕ)) → 
 placed_slot x letters text texts e = rw (eq-eqb x SLOT e) refl
 
 -- a pattern's entries have its sides in their slots
-filled_bud : (x : ℕ) (pattern : List ℕ) (sides : List (List ℕ)) → x ≡ BUD → filled (x ∷ pattern) sides ≡ x ∷ filled pattern sides
-filled_bud x pattern [] e = rw (eq-eqb x BUD e) (ap (λ (y : ℕ). y ∷ filled pattern []) (sym e))
-filled_bud x pattern (side ∷ sides) e = rw (eq-eqb x BUD e) (ap (λ (y : ℕ). y ∷ filled pattern (side ∷ sides)) (sym e))
-
-filled_slot : (x : ℕ) (pattern side : List ℕ) (sides : List (List ℕ)) → x ≡ SLOT → filled (x ∷ pattern) (side ∷ sides) ≡ side ++ filled pattern sides
-filled_slot x pattern side sides e = rw (ne_eqb x BUD (λ b. omega arith)) refl
-
 placed_bud : (x : ℕ) (pattern rest : List ℕ) (sides texts : List (List ℕ)) → x ≡ BUD → placed (pattern ++ rest) (sides ++ texts) ≡ filled pattern sides ++ placed rest texts
     → placed (x ∷ pattern ++ rest) (sides ++ texts) ≡ filled (x ∷ pattern) sides ++ placed rest texts
 placed_bud x pattern rest sides texts bud same =
     placed_plain x (pattern ++ rest) (sides ++ texts) (λ e. omega arith)
-    ∙ ap (λ (xs : List ℕ). x ∷ xs) same
+    ∙ ap (λ (y : ℕ). y ∷ placed (pattern ++ rest) (sides ++ texts)) bud
+    ∙ ap (λ (xs : List ℕ). BUD ∷ xs) same
     ∙ ap (λ (xs : List ℕ). xs ++ placed rest texts) (sym (filled_bud x pattern sides bud))
 
 placed_pattern : (pattern rest : List ℕ) (sides texts : List (List ℕ)) → IsTwo pattern → length sides ≡ tally SLOT pattern → placed (pattern ++ rest) (sides ++ texts) ≡ filled pattern sides ++ placed rest texts
@@ -64,7 +59,7 @@ placed_pattern (x ∷ pattern) rest (side ∷ sides) texts two l = elim two.0 [
       placed_slot x (pattern ++ rest) side (sides ++ texts) slot
       ∙ ap (λ (xs : List ℕ). side ++ xs) (placed_pattern pattern rest sides texts two.1 (omega (arith, t)))
       ∙ sym (append_assoc side (filled pattern sides) (placed rest texts))
-      ∙ ap (λ (xs : List ℕ). xs ++ placed rest texts) (sym (filled_slot x pattern side sides slot))
+      ∙ ap (λ (xs : List ℕ). xs ++ placed rest texts) (sym (filled_slot x pattern side sides (λ e. omega arith)))
 ]
 
 -- trees beside others

@@ -4,7 +4,7 @@ use Rattle.std.specs.Prelude.{slice_index, slice_index_or}
 use Rattle.std.proofs.Math.Seq.{take-append_seam, drop-append_seam}
 use Rattle.std.proofs.lemmas.Bool.{cases_eq}
 use Rattle.std.proofs.lemmas.Int.{ints}
-use Rattle.std.proofs.lemmas.List.{append_cancel_left, take-map, drop-map}
+use Rattle.std.proofs.lemmas.List.{append_cancel_left, nil_from_length, take-map, drop-map}
 use Rattle.pm_trees.specs.declared.letters.TheConstants.{LEAF, OPEN, CLOSE}
 use Rattle.pm_trees.specs.Binomial.{choose}
 use Rattle.pm_trees.specs.BudPattern.{HasRank, IsHalfDegree}
@@ -17,6 +17,7 @@ use Rattle.pm_euler.specs.Planted.{filled}
 use Rattle.pm_euler.specs.PlanePlanted.{AreSides, IsPlantedPlane}
 use Rattle.pm_euler.specs.PlanePlanted.AreSides.{none as no_sides, leaf, node}
 use Rattle.pm_euler.proofs.SideTexts.{same_push}
+use Rattle.pm_euler.proofs.PlaneTexts.{no_objects}
 
 -- the half degrees of the node objects, and the ranks of their patterns
 pub record HasRanks (halves ranks : List ℕ) : Type 0 where
@@ -94,17 +95,11 @@ record HaveSides (halves ranks objects : List ℕ) (many : ℕ) : Type 0 where
   are_sides : AreSides halves ranks objects texts
   counted : length texts ≡ many
 
--- where there is no tree there is no object
-no_objects : (halves ranks xs : List ℕ) (texts : List (List ℕ)) → AreSides halves ranks xs texts → length texts ≡ 0 → xs ≡ []
-no_objects halves ranks _ _ no_sides l = refl
-no_objects halves ranks _ _ (leaf object later texts z h) l = absurd (omega arith)
-no_objects halves ranks _ _ (node object under later pattern sides texts some p h n k) l = absurd (omega arith)
-
 -- a first tree, which is a leaf or a node, before others
 one_more : (halves ranks : List ℕ) (object : ℕ) (under later : List ℕ) (many : ℕ) → HasRanks halves ranks → HaveSides halves ranks under (half_of halves object) → HaveSides halves ranks later many → HaveSides halves ranks (object ∷ under ++ later) (suc many)
 one_more halves ranks object under later many ranked h k = elim (cases_eq (half_of halves object) 0) [
   | inl z ↦
-      let none_under : under ≡ [] = no_objects halves ranks under h.texts h.are_sides (h.counted ∙ z) in
+      let none_under : under ≡ [] = no_objects halves ranks under h.texts h.are_sides (nil_from_length h.texts (h.counted ∙ z)) in
       record {
         texts = (LEAF ∷ []) ∷ k.texts;
         are_sides = subst (λ (xs : List ℕ). AreSides halves ranks (object ∷ xs ++ later) ((LEAF ∷ []) ∷ k.texts)) (sym none_under) (leaf object later k.texts z k.are_sides);

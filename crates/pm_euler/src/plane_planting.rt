@@ -8,8 +8,33 @@ ghost use Rattle.pm_euler.specs.Objects.{letters_of};
 ghost use Rattle.pm_euler.specs.PlanePlanted.{IsPlantedPlane};
 
 use pm_limits::MAX_DEGREE;
-use pm_trees::{CLOSE, LEAF, OPEN, SLOT, pattern};
+use pm_trees::{CLOSE, LEAF, OPEN, SLOT, Tree, pattern};
 use std::alloc::{AllocError, Global};
+
+/// The blossoming tree whose objects in preorder are these, planted above the first: a node object has the bud pattern of
+/// its rank, with its children in the pattern's slots from left to right. Object k is a node of half degree `halves[k]`,
+/// and the objects from `halves.len()` on are leaves.
+///
+/// # Errors
+///
+/// Only where there is no memory left.
+pub(crate) fn plant_plane(
+    alloc: Global,
+    halves: &[u32],
+    ranks: &[u64],
+    objects: &[u32],
+) -> Result<Tree, AllocError>
+    requires halves { All IsHalfDegree halves.now }
+    requires ranked { length ranks.now ≡ length halves.now }
+    requires ranks { (k : ℕ) → k < length halves.now → slice_index ranks.now k < choose (2 * slice_index halves.now k - 1) (slice_index halves.now k) }
+    requires some { 1 < length objects.now }
+    requires few { length objects.now ≤ suc MAX_EDGES }
+    requires good { IsGood 1 (letters_of halves.now objects.now) }
+    ensures { IfOk result (λ word. IsPlantedPlane halves.now ranks.now objects.now word) }
+{
+    let letters = planted_letters(alloc, halves, ranks, objects)?;
+    Ok(Tree::of_word(letters))
+}
 
 /// The letters of that tree's word. What is still to be written lies ahead with the next letter last, and a slot there
 /// stands for the tree of the next objects in preorder.
