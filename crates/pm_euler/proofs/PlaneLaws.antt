@@ -1,23 +1,10 @@
 -- Laws of the word of a plane tree with bud patterns: it is that of a blossoming tree, with as many letters, leaves and
 -- nodes of each degree as the tree's objects say.
 use Rattle.std.proofs.Common.{◌≡◌, ℕ, zero, suc, ◌-◌, ◌*◌, ◌/◌, ◌<◌, ◌≤◌, ◌==◌, cond, inl, inr, List, [], ◌∷◌, length, All, count_by, refl, sym, ◌∙◌, arith, eq-eqb, ne_eqb}
-use Rattle.std.proofs.Common.{◌≡◌, ℕ, zero, suc, ◌+◌, ◌-◌, ◌*◌, ◌/◌, ◌%◌, ◌<◌, ◌≤◌, ◌==◌, cond, inl, inr, List, [], ◌∷◌, length, drop, All, count_by, refl, ap, sym, ◌∙◌, subst, arith, eq-eqb, ne_eqb}
 use Rattle.std.proofs.lemmas.Bool.{cases_eq, cases_lt}
 use Rattle.std.proofs.lemmas.List.{get_or_past, length-map}
 use Rattle.std.proofs.lemmas.List.Sums.{sum_by-cons}
 use Rattle.pm_limits.specs.declared.TheConstants.{MAX_EDGES, MAX_DEGREE}
-use Rattle.pm_trees.specs.Word.{contour}
-use Rattle.pm_trees.specs.Blossoming.{IsBlossoming, leaves}
-use Rattle.pm_trees.specs.BudPattern.{IsHalfDegree}
-use Rattle.pm_trees.specs.Degrees.{nodes_of}
-use Rattle.pm_trees.proofs.Tally.{tally, tally-nil, tally_yes, tally_no}
-use Rattle.pm_trees.proofs.Weights.{weight}
-use Rattle.pm_trees.proofs.Rings.{of_degree, of_degree_is, nodes_weight}
-use Rattle.pm_euler.specs.Objects.{half_of}
-use Rattle.pm_euler.specs.PlanePlanted.{IsPlantedPlane}
-use Rattle.pm_euler.proofs.Rows.{object_value, object_value_leaf, object_value_node, total, total-nil, total-cons}
-use Rattle.pm_euler.proofs.RootRows.{root_length, root_leaves, root_weight, root_blossoming, amiss, amiss_is}
-use Rattle.pm_trees.specs.declared.letters.TheConstants.{LEAF, BUD}
 use Rattle.pm_trees.specs.Word.{contour}
 use Rattle.pm_trees.specs.Blossoming.{IsBlossoming, leaves}
 use Rattle.pm_trees.specs.BudPattern.{IsHalfDegree}
@@ -36,10 +23,6 @@ plane_planted_length halves ranks objects word h =
     let l = root_length (half_degrees halves objects) word (plane_root_row halves ranks objects word h) in
     let long = length-map objects (λ object. half_of halves object) in
     omega (arith, l, long)
-    let r = plane_root_row halves ranks objects word h in
-    let a = length-map objects (λ object. half_of halves object) in
-    let b = ap length r.objects_are in
-    omega (arith, a, b, r.as_many, r.row.long)
 
 -- how many objects have this half degree
 tally_objects : (half : ℕ) (halves objects : List ℕ) → tally half (half_degrees halves objects) ≡ count_by (λ object. half_of halves object == half) objects
@@ -63,17 +46,6 @@ plane_planted_leaves halves ranks objects word h =
     let l = root_leaves (half_degrees halves objects) word (plane_root_row halves ranks objects word h) in
     let t = tally_objects 0 halves objects in
     omega (arith, l, t)
-
--- a sum over the nodes
-plane_weight : (halves ranks objects word : List ℕ) (f : ℕ → ℕ → ℕ) → IsPlantedPlane halves ranks objects word → weight f (contour word) ≡ total f (half_degrees halves objects)
-plane_weight halves ranks objects word f h = root_weight (half_degrees halves objects) word f (plane_root_row halves ranks objects word h)
-    let r = plane_root_row halves ranks objects word h in
-    let a = tally_objects 0 halves objects in
-    let b = ap (tally 0) r.objects_are in
-    let c = tally_no 0 (suc r.buds) r.below (λ e. omega arith) in
-    let d = tally_yes LEAF LEAF word refl in
-    let e = tally_is LEAF (contour word) in
-    omega (arith, a, b, c, d, e, r.row.leaves)
 
 -- a sum over the nodes
 plane_weight : (halves ranks objects word : List ℕ) (f : ℕ → ℕ → ℕ) → IsPlantedPlane halves ranks objects word → weight f (contour word) ≡ total f (half_degrees halves objects)
@@ -143,31 +115,6 @@ half_few halves object all =
       | inl l ↦ (all object 0 l).few
       | inr g ↦ (let a : half_of halves object ≡ 0 = get_or_past halves object 0 g in omega (arith, a))
     ]
-
-pub plane_planted_blossoming : (halves ranks objects word : List ℕ) → All IsHalfDegree halves → IsPlantedPlane halves ranks objects word → length objects ≤ suc MAX_EDGES → IsBlossoming word
-plane_planted_blossoming halves ranks objects word all h few =
-    let none = total_none amiss halves objects (λ object. object_amiss (half_of halves object) (half_few halves object all)) in
-    let long = length-map objects (λ object. half_of halves object) in
-    root_blossoming (half_degrees halves objects) word (plane_root_row halves ranks objects word h) none (omega (arith, long, few))
-good_node : (word : List ℕ) (node : ℕ) → value amiss 1 (drop (suc node) (contour word)) ≡ 0 → IsGood (contour word) node
-good_node word node z =
-    let a = value_is amiss 1 (drop (suc node) (contour word)) in
-    let b = amiss_is (1 + length (own_letters 0 (drop (suc node) (contour word)))) (tally BUD (own_letters 0 (drop (suc node) (contour word)))) in
-    let c = tally_is BUD (own_letters 0 (drop (suc node) (contour word))) in
-    record {
-      degree_is = record { even = omega (arith, a, b, z); few = omega (arith, a, b, z) };
-      buds_are = omega (arith, a, b, c, z);
-    }
-
-good_nodes : (word : List ℕ) → weight amiss (contour word) ≡ 0 → (node : ℕ) → IsNode (contour word) node → IsGood (contour word) node
-good_nodes word z node (inl e) =
-    let a = contour_weight amiss word in
-    let root : value amiss 1 (drop 1 (contour word)) ≡ 0 = omega (arith, a, z) in
-    subst (IsGood (contour word)) (sym e) (good_node word 0 root)
-good_nodes word z node (inr o) =
-    let a = contour_weight amiss word in
-    let b = inner_other amiss LEAF word (λ e. omega arith) in
-    good_node word node (none_inside amiss (contour word) node (omega (arith, a, b, z)) o)
 
 pub plane_planted_blossoming : (halves ranks objects word : List ℕ) → All IsHalfDegree halves → IsPlantedPlane halves ranks objects word → length objects ≤ suc MAX_EDGES → IsBlossoming word
 plane_planted_blossoming halves ranks objects word all h few =

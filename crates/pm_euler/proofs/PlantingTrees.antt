@@ -65,51 +65,6 @@ pub planted_no_other : (tree : Tree) (ranks word : List ℕ) (d : ℕ) → IsPla
 planted_no_other tree ranks word d h n =
     let e : cond {A = ℕ} (4 == d) 1 0 ≡ 0 = rw (ne_eqb 4 d (λ w. n (sym w))) refl in
     nodes_weight word d ∙ root_weight (side_halves tree) word (of_degree d) (planted_root_row tree ranks word h) ∙ halves_none (of_degree d) tree (of_degree_is d 4 1 ∙ e)
-    nodes_weight word d ∙ weight_none tree ranks word (of_degree d) h (of_degree_is d 4 1 ∙ e)
-
--- 0 at a node of degree 4 with one bud
-unlike : ℕ → ℕ → ℕ
-unlike d b = (d - 4) + (4 - d) + (b - 1) + (1 - b)
-
-unlike_is : (d b : ℕ) → unlike d b ≡ (d - 4) + (4 - d) + (b - 1) + (1 - b)
-unfolding unlike
-unlike_is d b = refl
-
-pub none_inside : (f : ℕ → ℕ → ℕ) (xs : List ℕ) (k : ℕ) → inner f xs ≡ 0 → slice_index xs k ≡ OPEN → value f 1 (drop (suc k) xs) ≡ 0
-none_inside f [] k h e = absurd (omega arith)
-none_inside f (x ∷ xs) zero h e = let a = inner_open f x xs e in omega (arith, a, h)
-none_inside f (x ∷ xs) (suc k) h e =
-    none_inside f xs k (elim (cases_eq x OPEN) [
-      | inl o ↦ (let a = inner_open f x xs o in omega (arith, a, h))
-      | inr n ↦ sym (inner_other f x xs n) ∙ h
-    ]) e
-
--- a node of degree 4 with one bud
-pub record IsFour (places : List ℕ) (node : ℕ) : Type 0 where
-  pub degree_is : degree places node ≡ 4
-  pub buds_are : buds places node ≡ 1
-
-like_four : (word : List ℕ) (node : ℕ) → value unlike 1 (drop (suc node) (contour word)) ≡ 0 → IsFour (contour word) node
-like_four word node z =
-    let a = value_is unlike 1 (drop (suc node) (contour word)) in
-    let b = unlike_is (1 + length (own_letters 0 (drop (suc node) (contour word)))) (tally BUD (own_letters 0 (drop (suc node) (contour word)))) in
-    let c = tally_is BUD (own_letters 0 (drop (suc node) (contour word))) in
-    record { degree_is = omega (arith, a, b, z); buds_are = omega (arith, a, b, c, z) }
-
-pub planted_four : (tree : Tree) (ranks word : List ℕ) → IsPlanted tree ranks word → (node : ℕ) → IsNode (contour word) node → IsFour (contour word) node
-planted_four tree ranks word h node (inl e) =
-    let z = weight_none tree ranks word unlike h (unlike_is 4 1) in
-    let a = contour_weight unlike word in
-    let root : value unlike 1 (drop 1 (contour word)) ≡ 0 = omega (arith, a, z) in
-    subst (IsFour (contour word)) (sym e) (like_four word 0 root)
-planted_four tree ranks word h node (inr o) =
-    let z = weight_none tree ranks word unlike h (unlike_is 4 1) in
-    let a = contour_weight unlike word in
-    let b = inner_other unlike LEAF word (λ e. omega arith) in
-    like_four word node (none_inside unlike (contour word) node (omega (arith, a, b, z)) o)
-
-pub planted_degree : (tree : Tree) (ranks word : List ℕ) → IsPlanted tree ranks word → (node : ℕ) → IsNode (contour word) node → degree (contour word) node ≡ 4
-planted_degree tree ranks word h node n = (planted_four tree ranks word h node n).degree_is
 
 pub planted_blossoming : (tree : Tree) (ranks word : List ℕ) → IsPlanted tree ranks word → 2 * length ranks ≤ MAX_EDGES → IsBlossoming word
 planted_blossoming tree ranks word h few =

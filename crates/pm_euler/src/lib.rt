@@ -18,6 +18,7 @@ pub use sample::{Sample, SampleRefusal};
 
 #[cfg(test)]
 mod object_tests;
+#[cfg(test)]
 mod plane_planting_tests;
 #[cfg(test)]
 mod planting_tests;

@@ -4,7 +4,6 @@ use Rattle.std.proofs.lemmas.Bool.{cases_eq, cases_Bool, eq-eqb, ne_eqb}
 use Rattle.std.proofs.lemmas.List.{get_or-set_same, get_or-set_other, length-set}
 use Rattle.std.proofs.lemmas.List.Sums.{count_by_more_yes, count_by_more_no}
 use Rattle.std.proofs.Math.Nat.{mul-div_cancel_left}
-use Rattle.std.proofs.Math.Nat.{mul-div_cancel_left, zero-div}
 use Rattle.pm_perm.specs.Count.{count_below}
 use Rattle.pm_perm.specs.Cycles.{leader}
 use Rattle.pm_perm.proofs.Counts.{count_below-same, count_below-le}
@@ -92,13 +91,6 @@ pub without_darts : (s : Structure) (degree : ℕ) → s.darts ≡ 0 → 0 < deg
 without_darts s degree none some = let test = eq-eqb s.darts 0 none in let other = ne_eqb degree 0 (λ e. absurd (omega arith)) in rw (test, other) refl
 
 pub one_vertex : (s : Structure) → s.darts ≡ 0 → vertices_of_degree s 0 ≡ 1
-with_darts : (s : Structure) (degree : ℕ) → (s.darts ≡ 0 → ⊥) → vertices_of_degree s degree ≡ count_below (λ d. nat_eq (leader s.darts s.next d) d && nat_eq (degree_of s d) degree) s.darts
-with_darts s degree some = let test = ne_eqb s.darts 0 some in rw test refl
-
-without_darts : (s : Structure) (degree : ℕ) → s.darts ≡ 0 → 0 < degree → vertices_of_degree s degree ≡ 0
-without_darts s degree none some = let test = eq-eqb s.darts 0 none in let other = ne_eqb degree 0 (λ e. absurd (omega arith)) in rw (test, other) refl
-
-one_vertex : (s : Structure) → s.darts ≡ 0 → vertices_of_degree s 0 ≡ 1
 one_vertex s none = let test = eq-eqb s.darts 0 none in rw test refl
 
 -- no dart is at a vertex of degree 0
@@ -108,7 +100,6 @@ none_at_zero s is = sym (darts_at_degree s 0 is) ∙ times_zero (count_below (λ
   times_zero n = omega arith
 
 pub none_of_zero : (s : Structure) → IsStructure s → (s.darts ≡ 0 → ⊥) → vertices_of_degree s 0 ≡ 0
-none_of_zero : (s : Structure) → IsStructure s → (s.darts ≡ 0 → ⊥) → vertices_of_degree s 0 ≡ 0
 none_of_zero s is some =
     let few = count_below-le (λ d. nat_eq (leader s.darts s.next d) d && nat_eq (degree_of s d) 0) (λ d. nat_eq (degree_of s d) 0) s.darts (λ k less both. and_second (nat_eq (leader s.darts s.next k) k) (nat_eq (degree_of s k) 0) both) in
     with_darts s 0 some ∙ zero_of (count_below (λ d. nat_eq (leader s.darts s.next d) d && nat_eq (degree_of s d) 0) s.darts) (count_below (λ d. nat_eq (degree_of s d) 0) s.darts) few (none_at_zero s is) where
@@ -137,16 +128,6 @@ times_vertices s degree is = elim (cases_eq s.darts 0) [
 -- what the table gets at a degree from 1 on
 part_of : (s : Structure) (degree : ℕ) (count : ℕ) → IsStructure s → 0 < degree → count ≡ count_below (λ d. nat_eq (degree_of s d) degree) s.darts → count / degree ≡ vertices_of_degree s degree
 part_of s degree count is some e = ap (λ (n : ℕ). n / degree) (e ∙ sym (times_vertices s degree is)) ∙ mul-div_cancel_left (vertices_of_degree s degree) some
--- what the table gets at a degree from 1 on
-part_of : (s : Structure) (degree : ℕ) (count : ℕ) → IsStructure s → 0 < degree → count ≡ count_below (λ d. nat_eq (degree_of s d) degree) s.darts → count / degree ≡ vertices_of_degree s degree
-part_of s degree count is some e = elim (cases_eq s.darts 0) [
-  | inl none ↦
-      let nothing : count ≡ 0 = e ∙ ap (count_below (λ d. nat_eq (degree_of s d) degree)) none in
-      ap (λ (n : ℕ). n / degree) nothing ∙ zero-div degree ∙ sym (without_darts s degree none some)
-  | inr has ↦
-      ap (λ (n : ℕ). n / degree) (e ∙ sym (darts_at_degree s degree is))
-      ∙ mul-div_cancel_left (count_below (λ d. nat_eq (leader s.darts s.next d) d && nat_eq (degree_of s d) degree) s.darts) some ∙ sym (with_darts s degree has)
-]
 
 pub vertex_counts : (s : Structure) (greatest : ℕ) (degrees table : List ℕ) → IsStructure s → length degrees ≡ s.darts → AreCycleSizes s.next degrees s.darts
     → length table ≡ suc greatest → IsTableOf degrees table → AreVertexCounts s greatest table
