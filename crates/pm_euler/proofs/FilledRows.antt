@@ -14,11 +14,11 @@ pub data AreRows : List ℕ → List (List ℕ) → Type 0 where
   no_rows : AreRows [] []
   one_row : (halves others text : List ℕ) (texts : List (List ℕ)) → IsRow 1 0 halves text → AreRows others texts → AreRows (halves ++ others) (text ∷ texts)
 
-filled_bud : (x : ℕ) (pattern : List ℕ) (texts : List (List ℕ)) → x ≡ BUD → filled (x ∷ pattern) texts ≡ BUD ∷ filled pattern texts
+pub filled_bud : (x : ℕ) (pattern : List ℕ) (texts : List (List ℕ)) → x ≡ BUD → filled (x ∷ pattern) texts ≡ BUD ∷ filled pattern texts
 filled_bud x pattern [] e = rw (eq-eqb x BUD e) refl
 filled_bud x pattern (text ∷ texts) e = rw (eq-eqb x BUD e) refl
 
-filled_slot : (x : ℕ) (pattern text : List ℕ) (texts : List (List ℕ)) → (x ≡ BUD → ⊥) → filled (x ∷ pattern) (text ∷ texts) ≡ text ++ filled pattern texts
+pub filled_slot : (x : ℕ) (pattern text : List ℕ) (texts : List (List ℕ)) → (x ≡ BUD → ⊥) → filled (x ∷ pattern) (text ∷ texts) ≡ text ++ filled pattern texts
 filled_slot x pattern text texts n = rw (ne_eqb x BUD n) refl
 
 tally_few : (letter : ℕ) (xs : List ℕ) → tally letter xs ≤ length xs

@@ -33,7 +33,7 @@ sides_rows halves ranks _ _ (node object under later pattern sides texts s p h e
     (one_row (half ∷ half_degrees halves under) (half_degrees halves later) text texts side (sides_rows halves ranks later texts k))
 
 -- no trees have no objects
-no_objects : (halves ranks objects : List ℕ) (texts : List (List ℕ)) → AreSides halves ranks objects texts → texts ≡ [] → objects ≡ []
+pub no_objects : (halves ranks objects : List ℕ) (texts : List (List ℕ)) → AreSides halves ranks objects texts → texts ≡ [] → objects ≡ []
 no_objects halves ranks _ _ none e = refl
 no_objects halves ranks _ _ (leaf object later texts d h) e = absurd cc
 no_objects halves ranks _ _ (node object under later pattern sides texts s p h d k) e = absurd cc

@@ -23,23 +23,28 @@ codes_by_degree pairs objects =
     flat_map (λ (p : ℕ × ℕ). code_of (objects_of (halves_of pairs) (p.0 / 2) objects)) pairs
     ++ code_of (objects_of (halves_of pairs) 0 objects)
 
--- The first choices are the code of an arrangement of the objects. Read cyclically from its one good start, it is the
--- preorder of a plane tree. The next choices are the patterns of the node objects. The last says at which free leaf the
--- blossoming tree is planted anew. It is closed; the residue is the start, the codes by degree, and the number of the old
--- plant.
+-- The objects in preorder: the arrangement with this code, read cyclically from the one good start of its word.
+pub record ArePreordered (halves code : List ℕ) (start : ℕ) (objects : List ℕ) : Type 0 where
+  pub arrangement : List ℕ
+  pub is_arranged : IsArrangementOf code arrangement
+  pub is_start : IsGoodStart 1 (letters_of halves arrangement) start
+  pub are_turned : objects ≡ turned start arrangement
+
+-- The first choices are the code of an arrangement of the objects, which read from its good start is the preorder of a
+-- plane tree. The next ones are the patterns of the node objects. The last says at which free leaf the blossoming tree is
+-- planted anew. It is closed; the residue is the start, the codes by degree, and the number of the old plant.
 pub record SamplesEulerian (pairs : List (ℕ × ℕ)) (choices : List ℕ) (map : RotationSystem) (residue : List ℕ) : Type 0 where
   pub valid : IsValidList choices (eulerian_choices pairs)
-  pub arrangement : List ℕ
-  pub is_arranged : IsArrangementOf (take (suc (edges_of pairs)) choices) arrangement
   pub start : ℕ
-  pub is_start : IsGoodStart 1 (letters_of (halves_of pairs) arrangement) start
+  pub objects : List ℕ
+  pub are_preordered : ArePreordered (halves_of pairs) (take (suc (edges_of pairs)) choices) start objects
   pub word : List ℕ
-  pub is_planted : IsPlantedPlane (halves_of pairs) (take (nodes_of_profile pairs) (drop (suc (edges_of pairs)) choices)) (turned start arrangement) word
-  pub turned_word : List ℕ
+  pub is_planted : IsPlantedPlane (halves_of pairs) (take (nodes_of_profile pairs) (drop (suc (edges_of pairs)) choices)) objects word
+  pub planted_anew : List ℕ
   pub old_plant : ℕ
-  pub is_anew : IsPlantedAnew word (slice_index choices (suc (edges_of pairs) + nodes_of_profile pairs)) turned_word old_plant
-  pub is_closed : IsCanonicalClosure turned_word map
-  pub residue_is : residue ≡ start ∷ (codes_by_degree pairs (turned start arrangement) ++ old_plant ∷ [])
+  pub is_anew : IsPlantedAnew word (slice_index choices (suc (edges_of pairs) + nodes_of_profile pairs)) planted_anew old_plant
+  pub is_closed : IsCanonicalClosure planted_anew map
+  pub residue_is : residue ≡ start ∷ (codes_by_degree pairs objects ++ old_plant ∷ [])
 
 -- What a map is answered that should have vertices of even degrees: how many it has of which degree, or the first rule
 -- that it breaks. Want of memory may come at any map.

@@ -4,6 +4,7 @@
 mod anew;
 mod bounds;
 mod closing;
+mod eulerian;
 mod map_class;
 mod map_profile;
 mod objects;
@@ -12,6 +13,7 @@ mod planting;
 mod quartic;
 mod sample;
 
+pub use eulerian::Eulerian;
 pub use map_class::MapClass;
 pub use quartic::Quartic;
 pub use sample::{Sample, SampleRefusal};
