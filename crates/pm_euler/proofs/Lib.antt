@@ -1,7 +1,9 @@
 pub mod BoundLemmas
 pub mod ClosedMaps
 pub mod EulerianBounds
+pub mod EulerianChoices
 pub mod EulerianMaps
+pub mod EulerianSamples
 pub mod FilledRows
 pub mod FreeLeaves
 pub mod ObjectLemmas
@@ -14,6 +16,7 @@ pub mod PlaneTrees
 pub mod PlantingSteps
 pub mod PlantingTrees
 pub mod PlantingWords
+pub mod Preorders
 pub mod QuarticMaps
 pub mod QuarticSamples
 pub mod RootRows

@@ -79,6 +79,7 @@ impl MapClass for Eulerian {
 
 /// The map and the residue of valid choices.
 fn sample_of_valid(alloc: Global, profile: &Profile, choices: &[u64]) -> Result<Sample, AllocError>
+    requires profile { IsProfile profile.now }
     requires valid { IsValidList choices.now (eulerian_choices profile.now) }
     ensures { IfOk result (λ sample. IsSampled (eulerian_choices profile.now) (eulerian_residues profile.now) (λ m. IsEulerian (structure_of m) profile.now) (SamplesEulerian profile.now choices.now) choices.now sample) }
 {
@@ -104,11 +105,12 @@ struct Preorder {
 fn preorder_of(alloc: Global, halves: &[u32], code: &[u64]) -> Result<Preorder, AllocError>
     requires profile { (pairs : List (ℕ × ℕ)) × IsProfile pairs × (halves.now ≡ halves_of pairs) × (length code.now ≡ suc (edges_of pairs)) }
     requires is_code { IsArrangementCode code.now }
-    ensures preorder { IfOk result (λ preorder. ArePreordered halves.now code.now preorder.start preorder.objects.items) }
+    ensures { IfOk result (λ preorder. ArePreordered halves.now code.now preorder.start preorder.objects.items) }
 {
     let arrangement = arrange(alloc, code)?;
     let letters = letters_of(alloc, halves, &arrangement)?;
-    let start = good_starts(alloc, &letters, 1)?[0];
+    let starts = good_starts(alloc, &letters, 1)?;
+    let start = starts[0];
     let objects = rotate(alloc, &arrangement, start)?;
     Ok(Preorder { start, objects })
 }
