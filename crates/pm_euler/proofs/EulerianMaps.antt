@@ -1,12 +1,12 @@
 -- Maps with vertices of even degrees: their one profile, and what a map is answered that should be one.
-use Rattle.std.proofs.Common.{◌≡◌, ◌≢◌, ◌⊎◌, ℕ, zero, suc, ◌+◌, ◌*◌, ◌/◌, ◌%◌, ◌<◌, ◌≤◌, Ok, Err, inl, inr, List, length, slice_index, slice_index_or, refl, sym, ◌∙◌, ap, subst, arith}
+use Rattle.std.proofs.Common.{◌≡◌, ◌≢◌, ◌⊎◌, ℕ, zero, suc, ◌%◌, ◌<◌, ◌≤◌, Ok, Err, inl, inr, List, length, slice_index, refl, sym, ◌∙◌, ap, subst, arith}
 use Rattle.std.proofs.lemmas.Bool.{cases_eq, cases_order}
 use Rattle.std.proofs.lemmas.List.{get_or_past}
-use Rattle.pm_limits.specs.declared.TheConstants.{MAX_DEGREE, MAX_EDGES}
+use Rattle.pm_limits.specs.declared.TheConstants.{MAX_DEGREE}
 use Rattle.pm_map.specs.Structure.{Structure, IsStructure}
 use Rattle.pm_map.specs.Rotation.{RotationSystem, structure_of, IsRootedMap}
 use Rattle.pm_map.specs.Classes.{IsEulerian, HasDegrees, degree_of, vertices_of_degree}
-use Rattle.pm_map.specs.ClassRules.{AllAdmitted, HasAdmittedDegree, IsLeastOther}
+use Rattle.pm_map.specs.ClassRules.{AllAdmitted, IsLeastOther}
 use Rattle.pm_map.specs.DegreeTable.{AreVertexCounts}
 use Rattle.pm_map.specs.declared.admitted.Degrees.TheVariants.{EvenUpTo}
 use Rattle.pm_map.specs.declared.class_refusal.ClassRefusal.TheVariants.{Memory, Empty, TooMany, Vertex, Face, Loop, Double}
@@ -14,7 +14,7 @@ use Rattle.pm_map.proofs.DegreeCounts.{HasSize, has_size, degree_counts_darts}
 use Rattle.pm_map.proofs.DegreesTaken.{dart_takes, dart_of_degree, darts_below, darts_below-more, darts_below-bound}
 use Rattle.pm_map.proofs.TableLemmas.{one_vertex}
 use Rattle.pm_trees.specs.First.{IsFirst}
-use Rattle.pm_trees.specs.Pairs.{IsProfile, BreaksPair, empty, wrong, degree_before, degree_sum, edges_of, pair_at}
+use Rattle.pm_trees.specs.Pairs.{IsProfile, BreaksPair, empty, wrong, pair_at}
 use Rattle.pm_trees.specs.Profile.{HasTooMany}
 use Rattle.pm_trees.specs.Degrees.{AreListed}
 use Rattle.pm_trees.proofs.CountedPairs.{AreCounted, sum_bounded, one_counted}

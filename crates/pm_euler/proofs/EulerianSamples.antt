@@ -1,8 +1,7 @@
 -- What is sampled has the vertices that the profile says, the residue is valid, and there is one sample.
-use Rattle.std.proofs.Common.{◌≡◌, ◌⊎◌, ℕ, zero, suc, ◌+◌, ◌-◌, ◌*◌, ◌/◌, ◌%◌, ◌<◌, ◌≤◌, ◌==◌, inl, inr, List, [], ◌∷◌, ◌++◌, length, take, drop, count_by, refl, sym, ◌∙◌, ap, ap₂, subst, arith}
+use Rattle.std.proofs.Common.{◌≡◌, ℕ, suc, ◌+◌, ◌-◌, ◌*◌, ◌/◌, ◌<◌, inl, inr, List, [], ◌∷◌, ◌++◌, length, take, drop, sym, ◌∙◌, ap, subst, arith}
 use Rattle.std.specs.Prelude.{slice_index}
 use Rattle.std.proofs.lemmas.Bool.{cases_eq}
-use Rattle.pm_limits.specs.declared.TheConstants.{MAX_EDGES}
 use Rattle.pm_lists.specs.Valid.{IsValidList}
 use Rattle.pm_trees.specs.Word.{contour}
 use Rattle.pm_trees.specs.Blossoming.{IsBlossoming, leaves}
@@ -11,15 +10,15 @@ use Rattle.pm_trees.specs.Pairs.{IsProfile, edges_of, pair_at}
 use Rattle.pm_trees.proofs.LeafTurns.{leaf_few}
 use Rattle.pm_trees.proofs.Replants.{replanted_alike}
 use Rattle.pm_match.specs.Pair.{IsBalanced}
-use Rattle.pm_map.specs.Rotation.{RotationSystem, structure_of, IsRootedMap}
-use Rattle.pm_map.specs.Classes.{IsEulerian, HasDegrees, vertices_of_degree}
+use Rattle.pm_map.specs.Rotation.{RotationSystem, structure_of}
+use Rattle.pm_map.specs.Classes.{IsEulerian, vertices_of_degree}
 use Rattle.pm_map.proofs.CarriedDegrees.{degrees_carried}
 use Rattle.pm_close.proofs.PlaneMap.{rooted_closure}
 use Rattle.pm_close.proofs.KeptDegrees.{kept}
 use Rattle.pm_euler.specs.Bounds.{eulerian_choices, eulerian_residues}
 use Rattle.pm_euler.specs.Closed.{IsCanonicalClosure}
 use Rattle.pm_euler.specs.Eulerian.{ArePreordered, SamplesEulerian, codes_by_degree}
-use Rattle.pm_euler.specs.Objects.{halves_of, nodes_of_profile, half_of}
+use Rattle.pm_euler.specs.Objects.{halves_of, nodes_of_profile}
 use Rattle.pm_euler.specs.PlanePlanted.{IsPlantedPlane}
 use Rattle.pm_euler.specs.PlantedAnew.{IsPlantedAnew}
 use Rattle.pm_euler.specs.Sampling.{IsSampled, HasOneSample}

@@ -1,5 +1,5 @@
 -- The objects in preorder: there are some where the word is that of a profile's objects, and they are one list.
-use Rattle.std.proofs.Common.{◌≡◌, ℕ, suc, ◌+◌, ◌<◌, ◌≤◌, inl, inr, List, ◌++◌, ℤ, pos, neg_ℤ, slice_index, length, map, take, drop, refl, sym, ◌∙◌, ap, ap₂, subst, arith}
+use Rattle.std.proofs.Common.{◌≡◌, ℕ, suc, ◌<◌, ◌≤◌, inl, inr, List, ◌++◌, ℤ, pos, neg_ℤ, slice_index, length, take, drop, sym, ◌∙◌, ap, ap₂, subst, arith}
 use Rattle.std.proofs.lemmas.Bool.{cases_order}
 use Rattle.std.proofs.lemmas.Int.{ints}
 use Rattle.std.proofs.lemmas.List.{drop-map, take-map, map-append, length-map, length-append, length-drop, length-take-le}

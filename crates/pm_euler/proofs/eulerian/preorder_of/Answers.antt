@@ -2,7 +2,6 @@ use Rattle.std.proofs.Common.{◌≡◌, ◌∙◌, ℕ, ℤ, List, length, suc,
 use Rattle.std.proofs.lemmas.List.{get_or_default}
 use Rattle.pm_trees.specs.BudPattern.{IsHalfDegree}
 use Rattle.pm_trees.specs.Pairs.{edges_of}
-use Rattle.pm_lehmer.specs.Lehmer.{IsArrangementOf}
 use Rattle.pm_words.specs.Word.{IsWord, IsGoodStarts, sum_of, turned}
 use Rattle.pm_euler.specs.Objects.{letters_of, halves_of}
 use Rattle.pm_euler.proofs.ObjectLemmas.{halves_are, letters_sum, letters_word}

@@ -1,14 +1,11 @@
-use Rattle.std.proofs.Common.{◌≡◌, ℕ, suc, ◌+◌, ◌-◌, ◌<◌, List, length, take, drop, ap, ap₂, refl, sym, ◌∙◌, subst, arith, rules}
+use Rattle.std.proofs.Common.{◌≡◌, ℕ, suc, ◌+◌, List, length, take, ap, ap₂, sym, ◌∙◌, subst, arith, rules}
 use Rattle.std.specs.Prelude.{slice_index}
 use Rattle.pm_lehmer.specs.Lehmer.{IsArrangementCode}
-use Rattle.pm_trees.specs.Binomial.{choose}
 use Rattle.pm_trees.specs.Pairs.{edges_of}
 use Rattle.pm_words.specs.Word.{IsGood}
-use Rattle.pm_euler.specs.Eulerian.{ArePreordered}
 use Rattle.pm_euler.specs.Objects.{halves_of, nodes_of_profile, letters_of}
-use Rattle.pm_euler.specs.PlanePlanted.{IsPlantedPlane}
 use Rattle.pm_euler.specs.PlantedAnew.{IsPlantedAnew}
-use Rattle.pm_euler.proofs.EulerianBounds.{arrangement_long, arrangement_is_valid, ranks_long, rank_is_valid, free_is_valid, length-eulerian_choices}
+use Rattle.pm_euler.proofs.EulerianBounds.{arrangement_long, arrangement_is_valid, length-eulerian_choices}
 use Rattle.pm_euler.proofs.EulerianChoices.{ap-preorder, preorder_of_choices, ranks_of_choices, free_of_choices, planted_of_choices}
 use Rattle.pm_euler.proofs.EulerianSamples.{eulerian_sampled}
 use Rattle.pm_euler.proofs.ObjectLemmas.{halves_some, halves_few}

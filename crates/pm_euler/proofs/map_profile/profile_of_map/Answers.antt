@@ -1,4 +1,4 @@
-use Rattle.std.proofs.Common.{◌≡◌, ℕ, List, Option, Err, length, ◌<◌, ap, sym, subst, arith}
+use Rattle.std.proofs.Common.{ℕ, Option, Err, length, ◌<◌, sym, subst, arith}
 use Rattle.std.specs.Prelude.{MatchOption}
 use Rattle.pm_limits.specs.declared.TheConstants.{MAX_DEGREE}
 use Rattle.pm_map.specs.Rotation.{structure_of}
