@@ -19,6 +19,8 @@ pub use quartic::Quartic;
 pub use sample::{Sample, SampleRefusal};
 
 #[cfg(test)]
+mod eulerian_tests;
+#[cfg(test)]
 mod object_tests;
 #[cfg(test)]
 mod plane_planting_tests;

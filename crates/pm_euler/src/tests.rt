@@ -47,18 +47,18 @@ fn list_of(alloc: Global, limits: &[u64], number: u64) -> Result<Vec<u64>, Alloc
 }
 
 // What all valid lists give.
-fn all_samples<C: MapClass<Size = u32>>(
+pub(crate) fn all_samples<C: MapClass>(
     alloc: Global,
-    size: u32,
+    size: &C::Size,
     lists: u64,
 ) -> Result<Vec<Vec<u8>>, SampleRefusal>
-    requires { C.is_size size }
+    requires { C.is_size size.now }
 {
-    let bounds = C::choice_bounds(alloc, &size)?;
+    let bounds = C::choice_bounds(alloc, size)?;
     let mut texts = Vec::new(alloc);
     for number in 0..lists {
         let choices = list_of(alloc, bounds.values(), number)?;
-        let sample = C::sample(alloc, &size, &choices)?;
+        let sample = C::sample(alloc, size, &choices)?;
         let text = digits(alloc, &sample)?;
         if texts.push(text).is_err() {
             return Err(SampleRefusal::Memory);
@@ -68,13 +68,13 @@ fn all_samples<C: MapClass<Size = u32>>(
 }
 
 // How many of the texts begin so.
-fn beginnings(texts: &[Vec<u8>], front: &[u8]) -> usize {
+pub(crate) fn beginnings(texts: &[Vec<u8>], front: &[u8]) -> usize {
     texts.iter().filter(|text| text.starts_with(front)).count()
 }
 
 #[test]
 fn all_lists_of_size_one(rt: HostRuntime) -> Result<(), Fail> {
-    let texts = all_samples::<Quartic>(rt.alloc(), 1, 12)?;
+    let texts = all_samples::<Quartic>(rt.alloc(), &1, 12)?;
     for rotation in ONE_VERTEX {
         assert_eq!(rt; beginnings(&texts, rotation), 6);
     }
@@ -86,7 +86,7 @@ fn all_lists_of_size_one(rt: HostRuntime) -> Result<(), Fail> {
 
 #[test]
 fn all_lists_of_size_two(rt: HostRuntime) -> Result<(), Fail> {
-    let texts = all_samples::<Quartic>(rt.alloc(), 2, 216)?;
+    let texts = all_samples::<Quartic>(rt.alloc(), &2, 216)?;
     for rotation in TWO_VERTICES {
         assert_eq!(rt; beginnings(&texts, rotation), 24);
     }

@@ -1,0 +1,127 @@
+//! Worked samples of maps with given even degrees.
+use crate::tests::{all_samples, beginnings};
+use crate::{Eulerian, MapClass, SampleRefusal};
+use pm_lists::ListRefusal;
+use pm_map::{ClassRefusal, RootedMap};
+use pm_trees::Profile;
+use std::test::Fail;
+
+#[test]
+fn all_lists_of_one_vertex_of_degree_two(rt: HostRuntime) -> Result<(), Fail> {
+    let profile = Profile::of_pairs(rt.alloc(), &[(2, 1)])?;
+    let texts = all_samples::<Eulerian>(rt.alloc(), &profile, 4)?;
+    assert_eq!(rt; beginnings(&texts, b"10"), 4);
+    for text in &texts {
+        assert_eq!(rt; beginnings(&texts, text), 1);
+    }
+    Ok(())
+}
+
+#[test]
+fn all_lists_of_one_vertex_of_degree_four(rt: HostRuntime) -> Result<(), Fail> {
+    let profile = Profile::of_pairs(rt.alloc(), &[(4, 1)])?;
+    let texts = all_samples::<Eulerian>(rt.alloc(), &profile, 36)?;
+    assert_eq!(rt; beginnings(&texts, b"1230"), 18);
+    assert_eq!(rt; beginnings(&texts, b"2031"), 18);
+    for text in &texts {
+        assert_eq!(rt; beginnings(&texts, text), 1);
+    }
+    Ok(())
+}
+
+#[test]
+fn all_lists_of_two_degrees(rt: HostRuntime) -> Result<(), Fail> {
+    let profile = Profile::of_pairs(rt.alloc(), &[(2, 1), (4, 1)])?;
+    let texts = all_samples::<Eulerian>(rt.alloc(), &profile, 144)?;
+    let rotations: [&[u8]; 6] = [
+        b"124503", b"204513", b"230451", b"234150", b"240153", b"253401",
+    ];
+    for rotation in rotations {
+        assert_eq!(rt; beginnings(&texts, rotation), 24);
+    }
+    for text in &texts {
+        assert_eq!(rt; beginnings(&texts, text), 1);
+    }
+    Ok(())
+}
+
+#[test]
+fn worked_lists(rt: HostRuntime) -> Result<(), Fail> {
+    let four = Profile::of_pairs(rt.alloc(), &[(4, 1)])?;
+    let first = Eulerian::sample(rt.alloc(), &four, &[0, 0, 0, 2, 0])?;
+    assert_eq!(rt; first.map.root(), 0);
+    assert_eq!(rt; first.map.sigma(), [1, 2, 3, 0].as_slice());
+    assert_eq!(rt; first.residue.values(), [0, 0, 0, 0, 2].as_slice());
+    let both = Profile::of_pairs(rt.alloc(), &[(2, 1), (4, 1)])?;
+    let second = Eulerian::sample(rt.alloc(), &both, &[3, 1, 0, 0, 0, 1, 1])?;
+    assert_eq!(rt; second.map.sigma(), [2, 3, 0, 4, 5, 1].as_slice());
+    assert_eq!(rt; second.residue.values(), [1, 0, 0, 0, 0, 2].as_slice());
+    let profile = Eulerian::size_of(rt.alloc(), &second.map)?;
+    assert_eq!(rt; profile.pairs(), [(2, 1), (4, 1)].as_slice());
+    Ok(())
+}
+
+#[test]
+fn a_list_of_three_degrees(rt: HostRuntime) -> Result<(), Fail> {
+    let profile = Profile::of_pairs(rt.alloc(), &[(2, 2), (4, 1), (6, 1)])?;
+    assert!(rt; Eulerian::admissible(&profile));
+    let choices = [4, 5, 2, 4, 0, 1, 0, 0, 0, 0, 1, 7, 0];
+    let sample = Eulerian::sample(rt.alloc(), &profile, &choices)?;
+    let rotation = [2, 7, 4, 13, 6, 11, 0, 8, 9, 10, 12, 5, 1, 3];
+    assert_eq!(rt; sample.map.sigma(), rotation.as_slice());
+    let residue = [2, 0, 0, 0, 0, 3, 1, 0, 0, 4];
+    assert_eq!(rt; sample.residue.values(), residue.as_slice());
+    let found = Eulerian::size_of(rt.alloc(), &sample.map)?;
+    assert_eq!(rt; found.pairs(), profile.pairs());
+    Ok(())
+}
+
+#[test]
+fn lists_that_are_not_valid(rt: HostRuntime) -> Result<(), Fail> {
+    let greatest = Profile::of_pairs(rt.alloc(), &[(64, 1)])?;
+    let mut choices = vec![in rt.alloc(); 0u64; 35]?;
+    choices[33] = 916_312_070_471_295_267;
+    let entry = Eulerian::sample(rt.alloc(), &greatest, &choices).err();
+    let refusal = ListRefusal::Entry {
+        place: 33,
+        value: 916_312_070_471_295_267,
+        bound: 916_312_070_471_295_267,
+    };
+    assert_eq!(rt; entry, Some(SampleRefusal::List(refusal)));
+    let length = Eulerian::sample(rt.alloc(), &greatest, &[0]).err();
+    let refusal = ListRefusal::Length { want: 35, have: 1 };
+    assert_eq!(rt; length, Some(SampleRefusal::List(refusal)));
+    Ok(())
+}
+
+#[test]
+fn bounds_of_two_degrees(rt: HostRuntime) -> Result<(), Fail> {
+    let profile = Profile::of_pairs(rt.alloc(), &[(2, 1), (4, 1)])?;
+    let choices = Eulerian::choice_bounds(rt.alloc(), &profile)?;
+    assert_eq!(rt; choices.values(), [4, 3, 2, 1, 1, 3, 2].as_slice());
+    let residues = Eulerian::residue_bounds(rt.alloc(), &profile)?;
+    assert_eq!(rt; residues.values(), [4, 1, 1, 2, 1, 3].as_slice());
+    Eulerian::is_sampled_once();
+    Ok(())
+}
+
+#[test]
+fn maps_that_are_not_eulerian(rt: HostRuntime) -> Result<(), Fail> {
+    let answer = RootedMap::from_parts(rt.alloc(), Vec::new(rt.alloc()), 0);
+    assert!(rt; answer.is_ok());
+    let Ok(point) = answer else { return Ok(()) };
+    assert_eq!(rt;
+        Eulerian::size_of(rt.alloc(), &point).err(),
+        Some(ClassRefusal::Empty)
+    );
+    // An edge with two ends of degree 1.
+    let sigma = Vec::from_slice(rt.alloc(), &[0, 1])?;
+    let answer = RootedMap::from_parts(rt.alloc(), sigma, 0);
+    assert!(rt; answer.is_ok());
+    let Ok(edge) = answer else { return Ok(()) };
+    assert_eq!(rt;
+        Eulerian::size_of(rt.alloc(), &edge).err(),
+        Some(ClassRefusal::Vertex { dart: 0 })
+    );
+    Ok(())
+}
