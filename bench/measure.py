@@ -23,6 +23,8 @@ DEEP_NODES = [10_000, 50_000, 200_000]
 WIDE_HUBS = [106, 1_064, 4_255]
 MAP_NODES = [5_000, 50_000, 500_000]
 SAMPLE_NODES = [1_000, 10_000, 100_000, 1_000_000]
+PROFILE_NODES = [1_000, 10_000, 100_000, 300_000]
+PROFILE_DEGREES = [[4], [2, 4, 6]]
 
 
 class Run:
@@ -191,12 +193,18 @@ def tables(program):
         steps = [maker("trees.py", "deep", nodes), [program, "close", "eulerian"], maker("maps.py")]
         maps.append(Case(f"{nodes:,}", 2 * nodes, steps))
     samples = [Case(str(nodes), 2 * nodes, [maker("choices.py", "quartic", nodes)]) for nodes in SAMPLE_NODES]
+    profiles = []
+    for degrees in PROFILE_DEGREES:
+        for nodes in PROFILE_NODES:
+            profile = ",".join(f"{degree}:{nodes}" for degree in degrees)
+            profiles.append(Case(profile, sum(degrees) // 2 * nodes, [maker("choices.py", "eulerian", profile)]))
     return [
         ("Deep trees, `close eulerian`", lambda case: ["close", "eulerian"], deep),
         ("Wide trees, `close eulerian`", lambda case: ["close", "eulerian"], wide),
         ("Maps, `canon`", lambda case: ["canon"], maps),
         ("Maps, `check general`", lambda case: ["check", "general"], maps),
         ("Choices, `sample quartic`", lambda case: ["sample", "quartic", case.label], samples),
+        ("Choices, `sample eulerian`", lambda case: ["sample", "eulerian", case.label], profiles),
     ]
 
 
