@@ -10,12 +10,12 @@ use Rattle.pm_perm.proofs.Counts.{count_below-into}
 use Rattle.pm_perm.proofs.InverseLemmas.{place_of, place_of-stays, value-place_of}
 use Rattle.pm_perm.proofs.LeaderMaps.{leader-map, leader-is_least, leader_map-inside, leader_map-twice}
 use Rattle.pm_perm.proofs.SameCycle.{in_cycle-back, in_cycle-leader, leader-in_cycle}
-use Rattle.pm_trees.specs.declared.letters.TheConstants.{OPEN, CLOSE}
+use Rattle.pm_trees.specs.declared.letters.TheConstants.{OPEN}
 use Rattle.pm_trees.specs.Word.{IsBracketing, IsInOrder, contour}
 use Rattle.pm_trees.specs.Node.{IsNode, degree}
 use Rattle.pm_trees.specs.Degrees.{has_degree, nodes_before, nodes_of}
 use Rattle.pm_trees.proofs.Bracketed.{bracketing_exists}
-use Rattle.pm_trees.proofs.Nesting.{other_below, one_opener, one_closer}
+use Rattle.pm_trees.proofs.Nesting.{other_below, across_one}
 use Rattle.pm_trees.proofs.RingPlaces.{mod_under}
 use Rattle.pm_map.specs.Rotation.{RotationSystem, structure_of, IsRootedMap}
 use Rattle.pm_map.specs.CycleSize.{IsCycleSize}
@@ -66,25 +66,6 @@ names places d node is e = elim is [
     either : (b : Bool) → ((b || true) && true) ≡ true
     either true = refl
     either false = refl
-
--- the place across the place across is the place
-other_back : (places other : List ℕ) (p : ℕ) → IsBracketing places other → p < length places → slice_index other (slice_index other p) ≡ p
-other_back places other p b l = elim (cases_eq (slice_index places p) OPEN) [
-  | inl o ↦
-      let pair = b.of_open p o in
-      one_opener places (slice_index other (slice_index other p)) (slice_index other p) p (b.of_close (slice_index other p) pair.closes) pair
-  | inr not_open ↦ elim (cases_eq (slice_index places p) CLOSE) [
-    | inl c ↦
-        let pair = b.of_close p c in
-        one_closer places (slice_index other p) (slice_index other (slice_index other p)) p (b.of_open (slice_index other p) pair.opens) pair
-    | inr not_close ↦
-        let same = b.of_letter p l not_open not_close in
-        ap (slice_index other) same ∙ same
-  ]
-]
-
-across_one : (places other : List ℕ) (a b : ℕ) → IsBracketing places other → a < length places → b < length places → slice_index other a ≡ slice_index other b → a ≡ b
-across_one places other a b bracketing l m same = sym (other_back places other a bracketing l) ∙ ap (slice_index other) same ∙ other_back places other b bracketing m
 
 node_within : (word : List ℕ) (node : ℕ) → IsNode (contour word) node → node < length (contour word)
 node_within word node is = elim is [

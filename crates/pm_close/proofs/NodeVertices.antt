@@ -10,15 +10,13 @@ use Rattle.pm_trees.specs.Node.{own_letters}
 use Rattle.pm_trees.proofs.Bracketed.{bracketing_exists}
 use Rattle.pm_trees.proofs.Levels.{seen, seen_yes, seen_no, IsEven, even_start, even_other, even_pair, even_from_pair, pair_from_even}
 use Rattle.pm_trees.proofs.Nesting.{one_closer, one_opener}
+use Rattle.pm_trees.proofs.RingPlaces.{mod_stays}
 use Rattle.pm_trees.proofs.Own.{IsOther, other_here, other_above, open_above, close_above}
 use Rattle.pm_map.specs.Structure.{Structure}
 use Rattle.pm_map.specs.Meeting.{IsVertexFrom}
 use Rattle.pm_close.specs.Closure.{IsAcross, from_open, from_close, from_letter, IsClosure}
 use Rattle.pm_close.specs.Nodes.{IsNodeVertex, NodesAreVertices}
 use Rattle.pm_close.proofs.ClosureLemmas.{bracketing_across, across_within, succ_last}
-
-mod_below : (p n : ℕ) → p < n → p % n ≡ p
-mod_below p n l = grind arith
 
 -- a letter that is no bracket, or a bracket
 data IsKind (places : List ℕ) (p : ℕ) : Type 0 where
@@ -150,7 +148,7 @@ module _ (places : List ℕ) (across : ℕ → ℕ) (is_across : (p : ℕ) → p
   entries_go : (p : ℕ) (es : List ℕ) (end : ℕ) → Entries places across p es end → (x : ℕ) → suc (across x) ≡ p
       → (k : ℕ) → suc k < length (x ∷ es) → slice_index (x ∷ es) (suc k) ≡ suc (across (slice_index (x ∷ es) k)) % length places
   entries_go _ _ _ (all_met p why) x e k l = absurd (omega arith)
-  entries_go _ _ _ (one_more p es end l not_close rest) x e zero m = sym (ap (λ (q : ℕ). q % length places) e ∙ mod_below p (length places) l)
+  entries_go _ _ _ (one_more p es end l not_close rest) x e zero m = sym (ap (λ (q : ℕ). q % length places) e ∙ mod_stays p (length places) l)
   entries_go _ _ _ (one_more p es end l not_close rest) x e (suc k) m = entries_go (suc (across p)) es end rest p refl k (omega arith)
 
   entries_last : (p : ℕ) (es : List ℕ) (end : ℕ) → Entries places across p es end → (x : ℕ) → suc (across x) ≡ p → suc (across (slice_index (x ∷ es) (length es))) ≡ end
@@ -296,7 +294,7 @@ node_vertices word closure order is node named =
               head = slice_index other node;
               is_head = inr pair;
               is_vertex = vertex_from (contour word) (slice_index other) (around other word bracketing) closure is (slice_index other node) (suc node) run.0 run.1.0 inside_q (ap suc back)
-                  (ap (λ (k : ℕ). k % length (contour word)) last ∙ mod_below (slice_index other node) (length (contour word)) inside_q)
+                  (ap (λ (k : ℕ). k % length (contour word)) last ∙ mod_stays (slice_index other node) (length (contour word)) inside_q)
                   (λ k l e. not_end (slice_index run.0 k) run.1.0 (slice_index other node) (inside.1 k l).high last e) run.1.1;
               entries_are = entries_letters (contour word) (slice_index other) (around other word bracketing) (suc node) run.0 run.1.0 run.1.1;
             },

@@ -11,17 +11,12 @@ use Rattle.pm_lehmer.proofs.Arranged.{length-code_of, code_of-is_code}
 use Rattle.pm_trees.specs.Binomial.{choose}
 use Rattle.pm_trees.specs.BudPattern.{IsHalfDegree}
 use Rattle.pm_trees.specs.Pairs.{IsProfile, edges_of, pair_at}
-use Rattle.pm_trees.proofs.Binomials.{choose_none, pascal}
+use Rattle.pm_trees.proofs.Binomials.{choose_some}
 use Rattle.pm_euler.specs.Objects.{halves_of, nodes_of_profile, half_of, objects_of}
 use Rattle.pm_euler.specs.Bounds.{code_bounds, eulerian_choices, eulerian_residues}
 use Rattle.pm_euler.specs.Eulerian.{codes_by_degree}
 use Rattle.pm_euler.proofs.BoundLemmas.{code_positive, length-code_bounds, code_bound}
 use Rattle.pm_euler.proofs.ObjectLemmas.{halves_are, HasObjects}
-
-choose_some : (n k : ℕ) → k ≤ n → 0 < choose n k
-choose_some n zero few = let a = choose_none n in omega (arith, a)
-choose_some zero (suc k) few = absurd (omega arith)
-choose_some (suc n) (suc k) few = let a = pascal n k in let h = choose_some n k (omega arith) in omega (arith, a, h)
 
 patterns_some : (half : ℕ) → IsHalfDegree half → 1 ≤ choose (2 * half - 1) half
 patterns_some half is = let h = choose_some (2 * half - 1) half (let some = is.some in omega arith) in omega (arith, h)

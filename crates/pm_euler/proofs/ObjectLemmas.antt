@@ -13,9 +13,9 @@ use Rattle.pm_limits.specs.declared.TheConstants.{MAX_EDGES}
 use Rattle.pm_perm.specs.Permutation.{IsPermutationList}
 use Rattle.pm_words.specs.Word.{IsWord, sum_of, turned}
 use Rattle.pm_words.specs.Plane.{letter_of}
-use Rattle.pm_words.proofs.Heights.{sum_of-append}
 use Rattle.pm_trees.specs.Pairs.{ArePairs, IsProfile, degree_sum, edges_of, pair_at}
 use Rattle.pm_trees.specs.BudPattern.{IsHalfDegree}
+use Rattle.pm_words.proofs.PlaneWords.{letter_of-is, sum_of-cons}
 use Rattle.pm_euler.specs.Objects.{halves_of, nodes_of_profile, half_of, letters_of}
 use Rattle.pm_euler.proofs.ObjectSums.{sum_by-permutation, sum_by-turned, sum_upto-list}
 
@@ -93,21 +93,12 @@ letter_least : (many : ℕ) → negsuc 0 ≤ℤ letter_of many
 letter_least zero = omega (arith, ints)
 letter_least (suc more) = omega (arith, ints)
 
-pub letter_is : (many : ℕ) → letter_of many +ℤ pos 1 ≡ pos many
-letter_is zero = omega (arith, ints)
-letter_is (suc more) = omega (arith, ints)
-
 pub letters_word : (halves objects : List ℕ) → IsWord (letters_of halves objects)
 letters_word halves objects = record {
   least = λ place inside.
       let within : place < length objects = (let long = length-map objects (λ object. letter_of (half_of halves object)) in omega arith) in
       subst (λ (letter : ℤ). negsuc 0 ≤ℤ letter) (sym (get_or-map (λ object. letter_of (half_of halves object)) objects place 0 (pos 0) within)) (letter_least (half_of halves (get_or objects place 0)));
 }
-
-sum_of-cons : (letter : ℤ) (later : List ℤ) → sum_of (letter ∷ later) ≡ letter +ℤ sum_of later
-sum_of-cons letter later = sum_of-append (letter ∷ []) later ∙ ap (λ (x : ℤ). x +ℤ sum_of later) alone where
-  alone : pos 0 +ℤ letter ≡ letter
-  alone = omega (arith, ints)
 
 sum_of-letters : (halves objects : List ℕ) → sum_of (letters_of halves objects) +ℤ pos (length objects) ≡ pos (sum_by (half_of halves) objects)
 sum_of-letters halves [] = omega (arith, ints)
@@ -116,7 +107,7 @@ sum_of-letters halves (object ∷ objects) =
       arith,
       ints,
       sum_of-cons (letter_of (half_of halves object)) (letters_of halves objects),
-      letter_is (half_of halves object),
+      letter_of-is (half_of halves object),
       sum_of-letters halves objects,
       sum_by-cons (half_of halves) object objects,
     )

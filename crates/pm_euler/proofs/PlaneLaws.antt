@@ -11,11 +11,11 @@ use Rattle.pm_trees.specs.BudPattern.{IsHalfDegree}
 use Rattle.pm_trees.specs.Degrees.{nodes_of}
 use Rattle.pm_trees.proofs.Tally.{tally, tally-nil, tally_yes, tally_no}
 use Rattle.pm_trees.proofs.Weights.{weight}
-use Rattle.pm_trees.proofs.Rings.{of_degree, of_degree_is, nodes_weight}
+use Rattle.pm_trees.proofs.Rings.{of_degree, of_degree_is, nodes_weight, bad, bad_is}
 use Rattle.pm_euler.specs.Objects.{half_of}
 use Rattle.pm_euler.specs.PlanePlanted.{IsPlantedPlane}
 use Rattle.pm_euler.proofs.Rows.{object_value, object_value_leaf, object_value_node, total, total-nil, total-cons}
-use Rattle.pm_euler.proofs.RootRows.{root_length, root_leaves, root_weight, root_blossoming, amiss, amiss_is}
+use Rattle.pm_euler.proofs.RootRows.{root_length, root_leaves, root_weight, root_blossoming}
 use Rattle.pm_euler.proofs.PlaneTexts.{half_degrees, plane_root_row}
 
 pub plane_planted_length : (halves ranks objects word : List ℕ) → IsPlantedPlane halves ranks objects word → suc (length word) ≡ 2 * (length objects - 1)
@@ -101,11 +101,11 @@ pub plane_planted_no_odd : (halves ranks objects word : List ℕ) (d : ℕ) → 
 plane_planted_no_odd halves ranks objects word d h n =
     nodes_weight word d ∙ plane_weight halves ranks objects word (of_degree d) h ∙ total_none (of_degree d) halves objects (λ object. object_of_no_degree d (half_of halves object) n)
 
-object_amiss : (half : ℕ) → half ≤ MAX_DEGREE / 2 → object_value amiss half ≡ 0
-object_amiss zero l = object_value_leaf amiss
-object_amiss (suc buds) l =
-    let a = object_value_node amiss buds in
-    let b = amiss_is (2 * suc buds) buds in
+object_bad : (half : ℕ) → half ≤ MAX_DEGREE / 2 → object_value bad half ≡ 0
+object_bad zero l = object_value_leaf bad
+object_bad (suc buds) l =
+    let a = object_value_node bad buds in
+    let b = bad_is (2 * suc buds) buds in
     omega (arith, a, b, l)
 
 -- each half degree is within the limit
@@ -118,6 +118,6 @@ half_few halves object all =
 
 pub plane_planted_blossoming : (halves ranks objects word : List ℕ) → All IsHalfDegree halves → IsPlantedPlane halves ranks objects word → length objects ≤ suc MAX_EDGES → IsBlossoming word
 plane_planted_blossoming halves ranks objects word all h few =
-    let none = total_none amiss halves objects (λ object. object_amiss (half_of halves object) (half_few halves object all)) in
+    let none = total_none bad halves objects (λ object. object_bad (half_of halves object) (half_few halves object all)) in
     let long = length-map objects (λ object. half_of halves object) in
     root_blossoming (half_degrees halves objects) word (plane_root_row halves ranks objects word h) none (omega (arith, long, few))

@@ -1,9 +1,8 @@
 -- Each good word of objects with ranks of patterns is that of one planted plane tree.
-use Rattle.std.proofs.Common.{◌≡◌, ℕ, zero, suc, ◌-◌, ◌*◌, ◌<◌, ℤ, pos, negsuc, ◌≤ℤ◌, List, [], ◌∷◌, ◌++◌, inl, inr, length, take, drop, All, refl, sym, ◌∙◌, ap, subst, arith, append_assoc, append-nil, take-append-drop}
+use Rattle.std.proofs.Common.{◌≡◌, ℕ, zero, suc, ◌-◌, ◌*◌, ◌<◌, ℤ, List, [], ◌∷◌, ◌++◌, inl, inr, length, take, drop, All, refl, sym, ◌∙◌, ap, subst, arith, append_assoc, append-nil, take-append-drop}
 use Rattle.std.specs.Prelude.{slice_index, slice_index_or}
 use Rattle.std.proofs.Math.Seq.{take-append_seam, drop-append_seam}
 use Rattle.std.proofs.lemmas.Bool.{cases_eq}
-use Rattle.std.proofs.lemmas.Int.{ints}
 use Rattle.std.proofs.lemmas.List.{append_cancel_left, nil_from_length, take-map, drop-map}
 use Rattle.pm_trees.specs.declared.letters.TheConstants.{LEAF, OPEN, CLOSE}
 use Rattle.pm_trees.specs.Binomial.{choose}
@@ -12,6 +11,8 @@ use Rattle.pm_trees.proofs.Ranked.{patterns_ranked}
 use Rattle.pm_words.specs.Word.{IsGood}
 use Rattle.pm_words.specs.Plane.{Trees, none, tree, how_many, letter_of, children_of, words_of, word_of, trees_of, subtrees_of}
 use Rattle.pm_words.proofs.PlaneWords.{word_of-subtrees_of}
+use Rattle.pm_words.specs.PlaneCode.{children_of-letter_of}
+use Rattle.pm_euler.proofs.ObjectLemmas.{letters_word}
 use Rattle.pm_euler.specs.Objects.{half_of, letters_of}
 use Rattle.pm_euler.specs.Planted.{filled}
 use Rattle.pm_euler.specs.PlanePlanted.{AreSides, IsPlantedPlane}
@@ -115,10 +116,6 @@ one_more halves ranks object under later many ranked h k = elim (cases_eq (half_
       }
 ]
 
-children_of-letter_of : (many : ℕ) → children_of (letter_of many) ≡ many
-children_of-letter_of zero = refl
-children_of-letter_of (suc many) = refl
-
 -- objects whose letters are the words of plane trees
 sides_exist : (halves ranks objects : List ℕ) (trees : Trees) → HasRanks halves ranks → letters_of halves objects ≡ words_of trees → HaveSides halves ranks objects (how_many trees)
 sides_exist halves ranks [] none ranked e = record { texts = []; are_sides = no_sides; counted = refl }
@@ -137,16 +134,6 @@ sides_exist halves ranks (object ∷ objects) (tree subtrees others) ranked e =
     subst (λ (xs : List ℕ). HaveSides halves ranks (object ∷ xs) (suc (how_many others))) (take-append-drop n objects)
     (one_more halves ranks object (take n objects) (drop n objects) (how_many others) ranked (subst (HaveSides halves ranks (take n objects)) (sym half) h) k)
 
--- the letters of objects are a word
-least_letter : (many : ℕ) → negsuc 0 ≤ℤ letter_of many
-least_letter zero = omega (arith, ints)
-least_letter (suc many) = omega (arith, ints)
-
-are_letters : (halves objects : List ℕ) (place : ℕ) → place < length (letters_of halves objects) → negsuc 0 ≤ℤ slice_index_or (letters_of halves objects) place (pos 0)
-are_letters halves [] place within = absurd (omega arith)
-are_letters halves (object ∷ objects) zero within = least_letter (half_of halves object)
-are_letters halves (object ∷ objects) (suc place) within = are_letters halves objects place (omega arith)
-
 -- a word of the tree with these objects
 planted_from : (halves ranks objects : List ℕ) (texts : List (List ℕ)) → AreSides halves ranks objects texts → length texts ≡ 1 → 1 < length objects → (word : List ℕ) × IsPlantedPlane halves ranks objects word
 planted_from halves ranks _ _ no_sides l some = absurd (omega arith)
@@ -160,7 +147,7 @@ pub plane_planted_exists : (halves ranks objects : List ℕ) → All IsHalfDegre
     → (word : List ℕ) × IsPlantedPlane halves ranks objects word
 plane_planted_exists halves ranks objects half_degrees below some good =
     let subtrees : Trees = subtrees_of (trees_of (letters_of halves objects)) in
-    let one : word_of subtrees ≡ letters_of halves objects = word_of-subtrees_of (letters_of halves objects) (record { least = are_letters halves objects }) good in
+    let one : word_of subtrees ≡ letters_of halves objects = word_of-subtrees_of (letters_of halves objects) (letters_word halves objects) good in
     let same : letters_of halves objects ≡ words_of (tree subtrees none) = sym one ∙ ap (λ (w : List ℤ). letter_of (how_many subtrees) ∷ w) (sym (append-nil (words_of subtrees))) in
     let h = sides_exist halves ranks objects (tree subtrees none) (record { half_degrees = half_degrees; below = below }) same in
     planted_from halves ranks objects h.texts h.are_sides h.counted some

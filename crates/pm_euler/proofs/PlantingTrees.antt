@@ -5,11 +5,11 @@ use Rattle.pm_trees.specs.Blossoming.{IsBlossoming}
 use Rattle.pm_trees.specs.Blossoming.{leaves as tree_leaves}
 use Rattle.pm_trees.specs.Degrees.{nodes_of}
 use Rattle.pm_trees.proofs.Tally.{tally, tally-nil, tally_yes, tally_no, tally-append}
-use Rattle.pm_trees.proofs.Rings.{of_degree, of_degree_is, nodes_weight}
+use Rattle.pm_trees.proofs.Rings.{of_degree, of_degree_is, nodes_weight, bad, bad_is}
 use Rattle.pm_remy.specs.Tree.{Tree, leaf, fork, labels_of, leaves}
 use Rattle.pm_euler.specs.Planted.{IsPlanted}
 use Rattle.pm_euler.proofs.Rows.{object_value, object_value_leaf, object_value_node, total, total-nil, total-cons, total-append}
-use Rattle.pm_euler.proofs.RootRows.{root_length, root_leaves, root_weight, root_blossoming, amiss, amiss_is}
+use Rattle.pm_euler.proofs.RootRows.{root_length, root_leaves, root_weight, root_blossoming}
 use Rattle.pm_euler.proofs.SideTexts.{side_halves, side_leaves, planted_root_row}
 
 -- a tree has one fork less than leaves
@@ -70,4 +70,4 @@ pub planted_blossoming : (tree : Tree) (ranks word : List ℕ) → IsPlanted tre
 planted_blossoming tree ranks word h few =
     let a = halves_length tree in
     let b = side_leaves tree ranks _ h in
-    root_blossoming (side_halves tree) word (planted_root_row tree ranks word h) (halves_none amiss tree (amiss_is 4 1)) (omega (arith, a, b, few))
+    root_blossoming (side_halves tree) word (planted_root_row tree ranks word h) (halves_none bad tree (bad_is 4 1)) (omega (arith, a, b, few))

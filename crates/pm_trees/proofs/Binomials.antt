@@ -16,6 +16,12 @@ pub pascal : (n k : ℕ) → choose (suc n) (suc k) ≡ choose n k + choose n (s
 unfolding choose
 pascal n k = refl
 
+-- there is a choice of no more than there are
+pub choose_some : (n k : ℕ) → k ≤ n → 0 < choose n k
+choose_some n zero few = let a = choose_none n in omega (arith, a)
+choose_some zero (suc k) few = absurd (omega arith)
+choose_some (suc n) (suc k) few = let a = pascal n k in let h = choose_some n k (omega arith) in omega (arith, a, h)
+
 pub choose_more : (n k : ℕ) → choose n k ≤ choose (suc n) k
 choose_more n zero = let a = choose_none n in let b = choose_none (suc n) in omega (arith, a, b)
 choose_more n (suc k) = let a = pascal n k in omega (arith, a)

@@ -111,7 +111,7 @@ none_inner f (x ∷ xs) (suc k) h e =
 pub bad : ℕ → ℕ → ℕ
 bad d b = d % 2 + (d - MAX_DEGREE) + (2 * suc b - d) + (d - 2 * suc b)
 
-bad_is : (d b : ℕ) → bad d b ≡ d % 2 + (d - MAX_DEGREE) + (2 * suc b - d) + (d - 2 * suc b)
+pub bad_is : (d b : ℕ) → bad d b ≡ d % 2 + (d - MAX_DEGREE) + (2 * suc b - d) + (d - 2 * suc b)
 unfolding bad
 bad_is d b = refl
 

@@ -22,7 +22,7 @@ word_of-injective first second same =
 pub record HasLowEnds (word : List ℤ) : Type 0 where
   pub low : (front : ℕ) → front < length word → sum_of (drop front word) ≤ℤ negsuc 0
 
-sum_of-cons : (letter : ℤ) (later : List ℤ) → sum_of (letter ∷ later) ≡ letter +ℤ sum_of later
+pub sum_of-cons : (letter : ℤ) (later : List ℤ) → sum_of (letter ∷ later) ≡ letter +ℤ sum_of later
 sum_of-cons letter later =
     let parts : sum_of (letter ∷ later) ≡ sum_of (letter ∷ []) +ℤ sum_of later = sum_of-append (letter ∷ []) later in
     omega (arith, ints, parts)
@@ -51,7 +51,7 @@ IsWord-cons letter later least is_word = record { least = go }
 IsWord-tail : (letter : ℤ) (later : List ℤ) → IsWord (letter ∷ later) → IsWord later
 IsWord-tail letter later is_word = record { least = λ place inside. is_word.least (suc place) (omega arith) }
 
-letter_of-is : (many : ℕ) → letter_of many +ℤ pos 1 ≡ pos many
+pub letter_of-is : (many : ℕ) → letter_of many +ℤ pos 1 ≡ pos many
 letter_of-is zero = refl
 letter_of-is (suc more) = omega (arith, ints)
 

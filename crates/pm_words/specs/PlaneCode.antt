@@ -32,7 +32,7 @@ trees_after-joined none more = joined-first more
 trees_after-joined (tree subtrees others) more =
     ap (trees_after (suc (how_many others))) (joined-tree subtrees others more) ∙ trees_after-joined others more
 
-children_of-letter_of : (many : ℕ) → children_of (letter_of many) ≡ many
+pub children_of-letter_of : (many : ℕ) → children_of (letter_of many) ≡ many
 children_of-letter_of zero = refl
 children_of-letter_of (suc more) = refl
 
