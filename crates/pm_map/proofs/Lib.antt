@@ -8,6 +8,7 @@ pub mod DegreeCounts
 pub mod DegreeRules
 pub mod DegreeTotals
 pub mod DegreesTaken
+pub mod EulerLemmas
 pub mod FaceLemmas
 pub mod FaceWalkLemmas
 pub mod MarksLemmas

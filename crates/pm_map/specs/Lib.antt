@@ -9,13 +9,13 @@ pub mod DegreeTable
 pub mod Ends
 pub mod FaceDistance
 pub mod FaceWalk
-pub mod Faces
 pub mod Marks
 pub mod Meeting
 pub mod Missing
 pub mod Parts
 pub mod Plane
 pub mod Reached
+pub mod ReachAnswers
 pub mod Rotation
 pub mod Search
 pub mod Simple

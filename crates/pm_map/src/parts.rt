@@ -4,7 +4,7 @@ ghost use Rattle.pm_map.specs.Parts.{IsMapAnswer};
 
 use crate::euler::euler_number;
 use crate::marks::least_missing;
-use crate::reaching::least_unreached;
+use crate::reaching::{Reach, reach_of_root};
 use crate::refusal::MapRefusal;
 use crate::rooted_map::RootedMap;
 use pm_limits::MAX_EDGES;
@@ -30,10 +30,11 @@ impl RootedMap {
         if let Some(dart) = least_missing(&sigma, &mut marks) {
             return Err(MapRefusal::NotPermutation { dart });
         }
-        if let Some(dart) = least_unreached(alloc, &sigma, root, &mut marks)? {
-            return Err(MapRefusal::NotConnected { dart });
-        }
-        let euler = euler_number(alloc, &sigma, &mut marks)?;
+        let faces = match reach_of_root(alloc, &sigma, root, &mut marks)? {
+            Reach::Everywhere { faces } => faces,
+            Reach::ShortOf { dart } => return Err(MapRefusal::NotConnected { dart }),
+        };
+        let euler = euler_number(&sigma, faces, &mut marks);
         if euler != 2 {
             return Err(MapRefusal::Genus { euler });
         }

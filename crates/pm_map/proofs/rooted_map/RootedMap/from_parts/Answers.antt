@@ -1,13 +1,12 @@
 use Rattle.std.proofs.Common.{◌≡◌, ◌*◌, ◌≤◌, ℕ, List, length, pos, subst, sym, ◌∙◌, FitsSigned, w64, to_z, of_z, rules, arith}
 use Rattle.std.proofs.lemmas.Int.{ints}
-use Rattle.std.proofs.lemmas.Option.{MatchOption-at_none}
 use Rattle.pm_limits.specs.declared.TheConstants.{MAX_EDGES}
 use Rattle.pm_perm.specs.Permutation.{IsPermutationList}
 use Rattle.pm_map.specs.Structure.{IsConnected}
 use Rattle.pm_map.specs.Plane.{euler_number}
-use Rattle.pm_map.specs.Reached.{IsLeastUnreached}
+use Rattle.pm_map.specs.ReachAnswers.{IsReachAnswer, IsReachedWhole}
 use Rattle.pm_map.specs.Rotation.{structure_of}
-use Rattle.pm_map.proofs.FaceLemmas.{euler_two, euler_other}
+use Rattle.pm_map.proofs.EulerLemmas.{euler_two, euler_other}
 use Rattle.pm_map.proofs.TwinLemmas.{structure_of_parts}
 use Rattle.pm_map.proofs.rooted_map.RootedMap.from_parts.Goals as goal
 
@@ -17,13 +16,13 @@ of_rotation-requires c =
     let permutes : IsPermutationList c.args.sigma.items = search rules in
     let same : c.deref-2.result.now ≡ c.args.sigma.items = search rules in
     let there = structure_of (record { sigma = c.deref-2.result.now; root = c.args.root }) in
-    let answer : IsConnected there = MatchOption-at_none (IsConnected there) (IsLeastUnreached there) c.in_default-2.is c.in_ok-dart.ensures in
+    let answer : IsReachedWhole there c.in-Everywhere.faces = subst (λ r. IsReachAnswer there r) c.in-Everywhere.is c.in_ok-faces.ensures in
     let connected : IsConnected (structure_of (record { sigma = c.args.sigma.items; root = c.args.root })) =
-    subst (λ (x : List ℕ). IsConnected (structure_of (record { sigma = x; root = c.args.root }))) same answer in
+    subst (λ (x : List ℕ). IsConnected (structure_of (record { sigma = x; root = c.args.root }))) same answer.connected in
     let deref : c.deref-3.result.now ≡ c.args.sigma.items = search rules in
-    let counted : c.in_ok-euler.euler ≡ euler_number (structure_of (record { sigma = c.args.sigma.items; root = c.args.root })) =
-    subst (λ (x : List ℕ). c.in_ok-euler.euler ≡ euler_number (structure_of (record { sigma = x; root = c.args.root }))) deref c.in_ok-euler.ensures in
-    let two : c.in_ok-euler.euler ≡ pos 2 = search (rules, c.if-euler-ne2.false) in
+    let counted : c.euler_number-euler.result ≡ euler_number (structure_of (record { sigma = c.args.sigma.items; root = c.args.root })) =
+    subst (λ (x : List ℕ). c.euler_number-euler.result ≡ euler_number (structure_of (record { sigma = x; root = c.args.root }))) deref c.euler_number-euler.ensures in
+    let two : c.euler_number-euler.result ≡ pos 2 = search (rules, c.if-euler-ne2.false) in
     record {
       even = c.requires.even;
       few = few;
@@ -38,18 +37,18 @@ returns-then-euler-ne2 c =
     let permutes : IsPermutationList c.args.sigma.items = search rules in
     let same : c.deref-2.result.now ≡ c.args.sigma.items = search rules in
     let there = structure_of (record { sigma = c.deref-2.result.now; root = c.args.root }) in
-    let answer : IsConnected there = MatchOption-at_none (IsConnected there) (IsLeastUnreached there) c.in_default-2.is c.in_ok-dart.ensures in
+    let answer : IsReachedWhole there c.in-Everywhere.faces = subst (λ r. IsReachAnswer there r) c.in-Everywhere.is c.in_ok-faces.ensures in
     let here = structure_of (record { sigma = c.args.sigma.items; root = c.args.root }) in
-    let connected : IsConnected here = subst (λ (x : List ℕ). IsConnected (structure_of (record { sigma = x; root = c.args.root }))) same answer in
+    let connected : IsConnected here = subst (λ (x : List ℕ). IsConnected (structure_of (record { sigma = x; root = c.args.root }))) same answer.connected in
     let deref : c.deref-3.result.now ≡ c.args.sigma.items = search rules in
-    let counted : c.in_ok-euler.euler ≡ euler_number here =
-    subst (λ (x : List ℕ). c.in_ok-euler.euler ≡ euler_number (structure_of (record { sigma = x; root = c.args.root }))) deref c.in_ok-euler.ensures in
-    let fits : FitsSigned w64 c.in_ok-euler.euler = search rules in
-    let back : to_z w64 (of_z w64 c.in_ok-euler.euler) ≡ c.in_ok-euler.euler = omega (arith, ints, fits) in
+    let counted : c.euler_number-euler.result ≡ euler_number here =
+    subst (λ (x : List ℕ). c.euler_number-euler.result ≡ euler_number (structure_of (record { sigma = x; root = c.args.root }))) deref c.euler_number-euler.ensures in
+    let fits : FitsSigned w64 c.euler_number-euler.result = search rules in
+    let back : to_z w64 (of_z w64 c.euler_number-euler.result) ≡ c.euler_number-euler.result = omega (arith, ints, fits) in
     record {
       few = few;
       permutes = permutes;
       connected = connected;
       number = back ∙ counted;
-      other = euler_other here c.in_ok-euler.euler counted (search (rules, c.if-euler-ne2.true));
+      other = euler_other here c.euler_number-euler.result counted (search (rules, c.if-euler-ne2.true));
     }
