@@ -1,5 +1,6 @@
 //! How many vertices, edges and faces a map has.
-ghost use Rattle.std.specs.Prelude.{◌≡◌, length};
+ghost use Rattle.std.specs.Prelude.{◌≡◌, ◌<◌, ◌^◌, length};
+ghost use Rattle.pm_perm.specs.Permutation.{IsPermutationList};
 ghost use Rattle.pm_map.specs.Plane.{vertices, edges, faces};
 ghost use Rattle.pm_map.specs.Rotation.{IsRootedMap, structure_of};
 
@@ -24,15 +25,25 @@ impl RootedMap {
         ensures faces { result.faces ≡ faces (structure_of self.now) }
     {
         let edges = self.edges();
-        let vertices = if edges == 0 {
-            1
-        } else {
-            count_cycles(self.sigma(), marks)
-        };
+        let vertices = count_vertices(self.sigma(), marks);
         Counts {
             vertices,
             edges,
             faces: edges + 2 - vertices,
         }
+    }
+}
+
+/// How many vertices the rotation has, in time linear in the darts. What it leaves in `marks` is free.
+pub(crate) fn count_vertices(sigma: &[u32], marks: &mut [bool]) -> u32
+    requires few { length sigma.now < 2 ^ 32 }
+    requires permutation { IsPermutationList sigma.now }
+    requires size { length marks.old ≡ length sigma.now }
+    ensures { result ≡ vertices (structure_of (record { sigma = sigma.now; root = 0 })) }
+{
+    if sigma.is_empty() {
+        1
+    } else {
+        count_cycles(sigma, marks)
     }
 }

@@ -9,6 +9,7 @@ pub mod ResidueLemmas
 pub mod AnswerLemmas
 pub mod RotationLemmas
 pub mod LinesLemmas
+pub mod LineCycles
 pub mod TextAnswers
 pub mod OneAnswer
 pub mod ReadAgainLemmas

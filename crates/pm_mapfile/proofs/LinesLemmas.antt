@@ -69,7 +69,7 @@ pub carried_stand : (darts after sigma : List ℕ) → CarriesOn darts after sig
 carried_stand darts after sigma c d h = let f = c.each d h in (f.place, record { within = f.within; here = f.here })
 
 -- so each place of the lines carries on
-carries_places : (darts after sigma : List ℕ) → CarriesOn darts after sigma → (place : ℕ) → place < length darts → get_or sigma (get_or darts place 0) 0 ≡ get_or after place 0
+pub carries_places : (darts after sigma : List ℕ) → CarriesOn darts after sigma → (place : ℕ) → place < length darts → get_or sigma (get_or darts place 0) 0 ≡ get_or after place 0
 carries_places darts after sigma c place h =
     let permutes : IsPermutationList darts = standing_permutes darts (carried_stand darts after sigma c) in
     let f = c.each (get_or darts place 0) (permutes.stays place h) in

@@ -21,7 +21,7 @@ pub sum-cons : (n : ℕ) (ns : List ℕ) → sum (n ∷ ns) ≡ n + sum ns
 sum-cons n ns = let e : sum (n ∷ ns) ≡ sum (n ∷ []) + sum ns = sum_by-append (λ k. k) (n ∷ []) ns in omega (arith, e)
 
 -- the sizes without the first
-sizes_left : (size : ℕ) (sizes darts : List ℕ) → AreSizes (size ∷ sizes) (length darts) → AreSizes sizes (length (drop size darts))
+pub sizes_left : (size : ℕ) (sizes darts : List ℕ) → AreSizes (size ∷ sizes) (length darts) → AreSizes sizes (length (drop size darts))
 sizes_left size sizes darts are = record {
   some = All-tail (λ n. 0 < n) size sizes are.some;
   total = omega (arith, are.total, sum-cons size sizes, length-drop size darts);

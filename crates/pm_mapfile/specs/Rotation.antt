@@ -71,6 +71,11 @@ IsRotationAnswer darts sizes (Err (TooMany edges)) = ⊥
 IsRotationAnswer darts sizes (Err (NotConnected dart)) = ⊥
 IsRotationAnswer darts sizes (Err (Genus euler)) = ⊥
 
+-- how many vertices lines of these sizes tell: one where there is no line
+abbrev pub vertices_of_lines : List ℕ → ℕ
+vertices_of_lines [] = 1
+vertices_of_lines (size ∷ sizes) = length (size ∷ sizes)
+
 -- what was read are the lines of a map text
 pub record TellsLines (edges root : ℕ) (darts sizes : List ℕ) : Type 0 where
   pub vertices : List (List ℕ)

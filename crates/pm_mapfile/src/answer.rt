@@ -1,8 +1,8 @@
 //! Reading the text of a map, and a map file.
-ghost use Rattle.std.specs.Prelude.{◌≤◌, ◌<◌, ◌^◌, length};
+ghost use Rattle.std.specs.Prelude.{◌≡◌, ◌≤◌, ◌<◌, ◌^◌, length};
 ghost use Rattle.pm_limits.specs.declared.TheConstants.{MAX_EDGES};
 ghost use Rattle.pm_mapfile.specs.Answers.{IsMapTextAnswer, IsMapFileAnswer};
-ghost use Rattle.pm_mapfile.specs.Rotation.{TellsLines, IsTextAnswer};
+ghost use Rattle.pm_mapfile.specs.Rotation.{TellsLines, IsTextAnswer, vertices_of_lines};
 
 use crate::file::{ReadFile, read_map_lines};
 use crate::read::{ReadText, read_map_text};
@@ -73,7 +73,24 @@ fn map_of_text(alloc: Global, text: &ReadText, limit: u32) -> Result<RootedMap, 
         return Err(MapRefusal::TooMany { edges: text.edges });
     }
     match rotation_of_lines(alloc, &text.darts, &text.sizes) {
-        Ok(sigma) => RootedMap::from_parts(alloc, sigma, text.root as u32),
+        Ok(sigma) => RootedMap::from_rotation(
+            alloc,
+            sigma,
+            text.root as u32,
+            vertex_count(&text.sizes),
+        ),
         Err(refusal) => Err(refusal),
+    }
+}
+
+/// How many vertices the map of lines of these sizes has: one for each line, and one where there is no line.
+fn vertex_count(sizes: &[usize]) -> u32
+    requires { length sizes.now < 2 ^ 32 }
+    ensures { result ≡ vertices_of_lines sizes.now }
+{
+    if sizes.is_empty() {
+        1
+    } else {
+        sizes.len() as u32
     }
 }

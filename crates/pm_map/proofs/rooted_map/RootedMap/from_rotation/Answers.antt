@@ -1,53 +1,47 @@
-use Rattle.std.proofs.Common.{◌≡◌, ◌*◌, ◌≤◌, ℕ, List, length, pos, subst, sym, ◌∙◌, FitsSigned, w64, to_z, of_z, rules, arith}
+use Rattle.std.proofs.Common.{◌≡◌, ℕ, List, pos, subst, sym, ◌∙◌, FitsSigned, w64, to_z, of_z, rules, arith}
 use Rattle.std.proofs.lemmas.Int.{ints}
-use Rattle.pm_limits.specs.declared.TheConstants.{MAX_EDGES}
-use Rattle.pm_perm.specs.Permutation.{IsPermutationList}
 use Rattle.pm_map.specs.Structure.{IsConnected}
 use Rattle.pm_map.specs.Plane.{euler_number}
 use Rattle.pm_map.specs.ReachAnswers.{IsReachAnswer, IsReachedWhole}
 use Rattle.pm_map.specs.Rotation.{structure_of}
 use Rattle.pm_map.proofs.EulerLemmas.{euler_two, euler_other}
 use Rattle.pm_map.proofs.TwinLemmas.{structure_of_parts}
-use Rattle.pm_map.proofs.rooted_map.RootedMap.from_parts.Goals as goal
+use Rattle.pm_map.proofs.rooted_map.RootedMap.from_rotation.Goals as goal
 
 pub of_rotation-requires : goal.of_rotation-requires
 of_rotation-requires c =
-    let few : length c.args.sigma.items ≤ 2 * MAX_EDGES = omega arith in
-    let permutes : IsPermutationList c.args.sigma.items = search rules in
-    let same : c.deref-2.result.now ≡ c.args.sigma.items = search rules in
-    let there = structure_of (record { sigma = c.deref-2.result.now; root = c.args.root }) in
+    let same : c.deref.result.now ≡ c.args.sigma.items = search rules in
+    let there = structure_of (record { sigma = c.deref.result.now; root = c.args.root }) in
     let answer : IsReachedWhole there c.in-Everywhere.faces = subst (λ r. IsReachAnswer there r) c.in-Everywhere.is c.in_ok-faces.ensures in
     let connected : IsConnected (structure_of (record { sigma = c.args.sigma.items; root = c.args.root })) =
     subst (λ (x : List ℕ). IsConnected (structure_of (record { sigma = x; root = c.args.root }))) same answer.connected in
-    let deref : c.deref-3.result.now ≡ c.args.sigma.items = search rules in
+    let deref : c.deref-2.result.now ≡ c.args.sigma.items = search rules in
     let counted : c.euler_number-euler.result ≡ euler_number (structure_of (record { sigma = c.args.sigma.items; root = c.args.root })) =
     subst (λ (x : List ℕ). c.euler_number-euler.result ≡ euler_number (structure_of (record { sigma = x; root = c.args.root }))) deref c.euler_number-euler.ensures in
     let two : c.euler_number-euler.result ≡ pos 2 = search (rules, c.if-euler-ne2.false) in
     record {
       even = c.requires.even;
-      few = few;
-      structure = structure_of_parts c.args.sigma.items c.args.root c.requires.even permutes c.requires.root c.requires.no_root;
+      few = c.requires.few;
+      structure = structure_of_parts c.args.sigma.items c.args.root c.requires.even c.requires.permutation c.requires.root c.requires.no_root;
       connected = connected;
       euler = euler_two (structure_of (record { sigma = c.args.sigma.items; root = c.args.root })) (sym counted ∙ two);
     }
 
 pub returns-then-euler-ne2 : goal.returns-then-euler-ne2
 returns-then-euler-ne2 c =
-    let few : length c.args.sigma.items ≤ 2 * MAX_EDGES = omega arith in
-    let permutes : IsPermutationList c.args.sigma.items = search rules in
-    let same : c.deref-2.result.now ≡ c.args.sigma.items = search rules in
-    let there = structure_of (record { sigma = c.deref-2.result.now; root = c.args.root }) in
+    let same : c.deref.result.now ≡ c.args.sigma.items = search rules in
+    let there = structure_of (record { sigma = c.deref.result.now; root = c.args.root }) in
     let answer : IsReachedWhole there c.in-Everywhere.faces = subst (λ r. IsReachAnswer there r) c.in-Everywhere.is c.in_ok-faces.ensures in
     let here = structure_of (record { sigma = c.args.sigma.items; root = c.args.root }) in
     let connected : IsConnected here = subst (λ (x : List ℕ). IsConnected (structure_of (record { sigma = x; root = c.args.root }))) same answer.connected in
-    let deref : c.deref-3.result.now ≡ c.args.sigma.items = search rules in
+    let deref : c.deref-2.result.now ≡ c.args.sigma.items = search rules in
     let counted : c.euler_number-euler.result ≡ euler_number here =
     subst (λ (x : List ℕ). c.euler_number-euler.result ≡ euler_number (structure_of (record { sigma = x; root = c.args.root }))) deref c.euler_number-euler.ensures in
     let fits : FitsSigned w64 c.euler_number-euler.result = search rules in
     let back : to_z w64 (of_z w64 c.euler_number-euler.result) ≡ c.euler_number-euler.result = omega (arith, ints, fits) in
     record {
-      few = few;
-      permutes = permutes;
+      few = c.requires.few;
+      permutes = c.requires.permutation;
       connected = connected;
       number = back ∙ counted;
       other = euler_other here c.euler_number-euler.result counted (search (rules, c.if-euler-ne2.true));
