@@ -9,7 +9,6 @@ pub mod DegreeRules
 pub mod DegreeTotals
 pub mod DegreesTaken
 pub mod EulerLemmas
-pub mod FaceLemmas
 pub mod FaceWalkLemmas
 pub mod MarksLemmas
 pub mod SameMaps
