@@ -1,10 +1,10 @@
 -- The rotation of the lines: lines turned by one, the dart after each dart, and what is told of all darts.
-use Rattle.std.proofs.Common.{◌≡◌, ℕ, suc, ◌+◌, ◌-◌, ◌<◌, ◌≤◌, inl, inr, List, [], ◌∷◌, ◌++◌, Option, Some, None, length, take, drop, get_or, set, replicate, refl, sym, ap, ◌∙◌, subst, arith, append_assoc, length-append, length-drop, length-set, drop-drop, Result, Ok, Err}
-use Rattle.std.specs.Prelude.{All, MatchOption, Vec, sum}
+use Rattle.std.proofs.Common.{◌≡◌, ℕ, suc, ◌+◌, ◌-◌, ◌<◌, ◌≤◌, inl, inr, List, [], ◌∷◌, ◌++◌, Option, Some, None, length, take, drop, get_or, set, replicate, refl, sym, ap, ◌∙◌, subst, arith, append_assoc, length-append, length-drop, length-set, length-take-le, get_or-append-add, drop-drop, Result, Ok, Err}
+use Rattle.std.specs.Prelude.{MatchOption, Vec, sum}
 use Rattle.std.specs.declared.alloc.Global.{Global}
 use Rattle.std.proofs.lemmas.Bool.{cases_eq}
-use Rattle.std.proofs.lemmas.List.{drop_more, get_or-set_same, get_or-set_other, get_or-replicate, take-append-drop, length-replicate}
-use Rattle.std.proofs.lemmas.List.Elements.{All-nil, All-head, All-tail, All-append, All-push, All-take, All-drop}
+use Rattle.std.proofs.lemmas.List.{drop_more, get_or-set_same, get_or-set_other, get_or-replicate, get_or_append_left, get_or_push, get_or-take, get_or-drop, length-replicate}
+use Rattle.std.proofs.lemmas.List.Elements.{All-head, All-tail}
 use Rattle.std.proofs.lemmas.List.Sums.{sum_by-append}
 use Rattle.std.proofs.Math.Seq.{take-append_seam}
 use Rattle.pm_map.specs.declared.refusal.MapRefusal.{MapRefusal}
@@ -26,29 +26,6 @@ sizes_left size sizes darts are = record {
   some = All-tail (λ n. 0 < n) size sizes are.some;
   total = omega (arith, are.total, sum-cons size sizes, length-drop size darts);
 }
-
-pub length-turned_lines : (sizes darts : List ℕ) → AreSizes sizes (length darts) → length (turned_lines sizes darts) ≡ length darts
-length-turned_lines [] darts are = let total : 0 ≡ length darts = are.total in total
-length-turned_lines (size ∷ sizes) darts are =
-    omega (
-      arith,
-      length-append (turned (take size darts)) (turned_lines sizes (drop size darts)),
-      length-turned (take size darts),
-      length-turned_lines sizes (drop size darts) (sizes_left size sizes darts are),
-      ap length (take-append-drop size darts),
-      length-append (take size darts) (drop size darts),
-    )
-
--- and no other darts
-All-turned : (P : ℕ → Type 0) (darts : List ℕ) → All P darts → All P (turned darts)
-All-turned P [] all = all
-All-turned P (dart ∷ darts) all = All-push P darts dart (All-tail P dart darts all) (All-head P dart darts all)
-
-pub All-turned_lines : (P : ℕ → Type 0) (sizes darts : List ℕ) → All P darts → All P (turned_lines sizes darts)
-All-turned_lines P [] darts all = All-nil P
-All-turned_lines P (size ∷ sizes) darts all =
-    All-append P (turned (take size darts)) (turned_lines sizes (drop size darts)) (All-turned P (take size darts) (All-take P size darts all))
-    (All-turned_lines P sizes (drop size darts) (All-drop P size darts all))
 
 -- the lines that are turned, and those that are left
 pub record IsTurning (sizes darts after : List ℕ) (count start : ℕ) : Type 0 where
@@ -103,13 +80,6 @@ turning_more sizes darts after more count start t h added =
           ∙ ap (λ l. l ++ turned_lines rest (drop (start + size) darts)) (sym (append_assoc after (take (start + size - (start + 1)) (drop (start + 1) darts)) (get_or darts start 0 ∷ [])) ∙ sym added);
     }
 
-pub turning_ends : (sizes darts after : List ℕ) (count start : ℕ) → IsTurning sizes darts after count start → drop count sizes ≡ [] → after ≡ turned_lines sizes darts
-turning_ends sizes darts after count start t none =
-    sym (append_nil after) ∙ ap (λ l. after ++ turned_lines l (drop start darts)) (sym none) ∙ sym t.are_turned where
-      append_nil : (l : List ℕ) → l ++ [] ≡ l
-      append_nil [] = refl
-      append_nil (x ∷ l) = ap (λ m. x ∷ m) (append_nil l)
-
 -- no dart is followed yet
 pub followers_none : (darts after : List ℕ) → AreFollowers darts after 0 (replicate (length darts) None)
 followers_none darts after = record {
@@ -141,6 +111,95 @@ followers_more darts after count followers are h below =
             (λ value f. record { place = f.place; within = omega (arith, f.within); here = f.here; is_next = f.is_next }))
       ];
     }
+
+-- the lines of which the followers are written, and those that are left
+pub record AreWritingLines (sizes darts : List ℕ) (followers : List (Option ℕ)) (count start : ℕ) : Type 0 where
+  pub before : List ℕ
+  pub long : length before ≡ start
+  pub turning : IsTurning sizes darts before count start
+  pub written : AreFollowers darts (turned_lines sizes darts) start followers
+
+pub writing_begins : (sizes darts : List ℕ) (followers : List (Option ℕ)) → AreSizes sizes (length darts) → AreFollowers darts (turned_lines sizes darts) 0 followers
+    → AreWritingLines sizes darts followers 0 0
+writing_begins sizes darts followers are none = record { before = []; long = refl; turning = turning_begins sizes darts are; written = none }
+
+-- as many darts as the line has
+line_length : (size start : ℕ) (darts : List ℕ) → 0 < size → start + size ≤ length darts → length (take (start + size - (start + 1)) (drop (start + 1) darts) ++ get_or darts start 0 ∷ []) ≡ size
+line_length size start darts some fits =
+    omega (
+      arith,
+      length-append (take (start + size - (start + 1)) (drop (start + 1) darts)) (get_or darts start 0 ∷ []),
+      length-take-le (start + size - (start + 1)) (drop (start + 1) darts) (omega (arith, length-drop (start + 1) darts, some, fits)),
+    )
+
+-- what follows the places of the next line
+line_at : (sizes darts before : List ℕ) (count start i : ℕ) → IsTurning sizes darts before count start → length before ≡ start → count < length sizes → i < get_or sizes count 0
+    → get_or (turned_lines sizes darts) (start + i) 0 ≡ get_or (take (start + get_or sizes count 0 - (start + 1)) (drop (start + 1) darts) ++ get_or darts start 0 ∷ []) i 0
+line_at sizes darts before count start i t long h less =
+    let size = get_or sizes count 0 in
+    let rest = drop (count + 1) sizes in
+    let line = take (start + size - (start + 1)) (drop (start + 1) darts) ++ get_or darts start 0 ∷ [] in
+    let fits = next_fits sizes darts before count start t h in
+    let is : turned_lines sizes darts ≡ before ++ (line ++ turned_lines rest (drop size (drop start darts))) =
+    t.are_turned ∙ ap (λ l. before ++ turned_lines l (drop start darts)) (drop_more sizes count 0 h)
+    ∙ ap (λ l. before ++ (l ++ turned_lines rest (drop size (drop start darts)))) (turned_slice size start darts fits.0 fits.1) in
+    let size_of_line : length line ≡ size = line_length size start darts fits.0 fits.1 in
+    ap (λ l. get_or l (start + i) 0) is ∙ ap (λ n. get_or (before ++ (line ++ turned_lines rest (drop size (drop start darts)))) (n + i) 0) (sym long)
+    ∙ get_or-append-add before (line ++ turned_lines rest (drop size (drop start darts))) i 0
+    ∙ get_or_append_left line (turned_lines rest (drop size (drop start darts))) 0 i (omega (arith, less, size_of_line))
+
+-- a dart that isn't the last of its line is followed by the next
+pub followed_by_next : (sizes darts before : List ℕ) (count start place : ℕ) → IsTurning sizes darts before count start → length before ≡ start → count < length sizes
+    → start ≤ place → place + 1 < start + get_or sizes count 0 → get_or (turned_lines sizes darts) place 0 ≡ get_or darts (place + 1) 0
+followed_by_next sizes darts before count start place t long h from less =
+    let size = get_or sizes count 0 in
+    let fits = next_fits sizes darts before count start t h in
+    let n = start + size - (start + 1) in
+    let front = take n (drop (start + 1) darts) in
+    let here : start + (place - start) ≡ place = omega (arith, from) in
+    let there : start + 1 + (place - start) ≡ place + 1 = omega (arith, from) in
+    let inside : place - start < n = omega (arith, from, less) in
+    let long_front : length front ≡ n = length-take-le n (drop (start + 1) darts) (omega (arith, length-drop (start + 1) darts, fits.0, fits.1)) in
+    ap (λ p. get_or (turned_lines sizes darts) p 0) (sym here) ∙ line_at sizes darts before count start (place - start) t long h (omega (arith, from, less))
+    ∙ get_or_append_left front (get_or darts start 0 ∷ []) 0 (place - start) (omega (arith, inside, long_front))
+    ∙ get_or-take n (drop (start + 1) darts) (place - start) 0 inside ∙ get_or-drop (start + 1) darts (place - start) 0 ∙ ap (λ p. get_or darts p 0) there
+
+-- the last dart of a line is followed by the first
+pub followed_by_first : (sizes darts before : List ℕ) (count start : ℕ) → IsTurning sizes darts before count start → length before ≡ start → count < length sizes
+    → get_or (turned_lines sizes darts) (start + get_or sizes count 0 - 1) 0 ≡ get_or darts start 0
+followed_by_first sizes darts before count start t long h =
+    let size = get_or sizes count 0 in
+    let fits = next_fits sizes darts before count start t h in
+    let n = start + size - (start + 1) in
+    let here : start + (size - 1) ≡ start + size - 1 = omega (arith, fits.0) in
+    let front = take n (drop (start + 1) darts) in
+    let long_front : length front ≡ size - 1 = length-take-le n (drop (start + 1) darts) (omega (arith, length-drop (start + 1) darts, fits.0, fits.1)) ∙ omega (arith, fits.0) in
+    ap (λ p. get_or (turned_lines sizes darts) p 0) (sym here) ∙ line_at sizes darts before count start (size - 1) t long h (omega (arith, fits.0))
+    ∙ get_or_push front (get_or darts start 0) 0 (size - 1) long_front
+
+-- the followers of one line more are written
+pub writing_more : (sizes darts : List ℕ) (followers more : List (Option ℕ)) (count start : ℕ) → (w : AreWritingLines sizes darts followers count start) → count < length sizes
+    → AreFollowers darts (turned_lines sizes darts) (start + get_or sizes count 0) more → AreWritingLines sizes darts more (count + 1) (start + get_or sizes count 0)
+writing_more sizes darts followers more count start w h written =
+    let size = get_or sizes count 0 in
+    let fits = next_fits sizes darts w.before count start w.turning h in
+    let line = take (start + size - (start + 1)) (drop (start + 1) darts) in
+    let after = (w.before ++ line) ++ get_or darts start 0 ∷ [] in
+    record {
+      before = after;
+      long = ap length (append_assoc w.before line (get_or darts start 0 ∷ [])) ∙ length-append w.before (line ++ get_or darts start 0 ∷ [])
+          ∙ omega (arith, w.long, line_length size start darts fits.0 fits.1);
+      turning = turning_more sizes darts w.before after count start w.turning h refl;
+      written = written;
+    }
+
+pub writing_ends : (sizes darts : List ℕ) (followers : List (Option ℕ)) (count start : ℕ) → AreWritingLines sizes darts followers count start → drop count sizes ≡ []
+    → AreFollowers darts (turned_lines sizes darts) (length darts) followers
+writing_ends sizes darts followers count start w none =
+    let left : AreSizes [] (length (drop start darts)) = subst (λ l. AreSizes l (length (drop start darts))) none w.turning.left in
+    let total : 0 ≡ length (drop start darts) = left.total in
+    let all : start ≡ length darts = omega (arith, total, length-drop start darts, w.turning.within) in
+    subst (λ n. AreFollowers darts (turned_lines sizes darts) n followers) all w.written
 
 -- what is told of the first darts is written
 pub record IsTelling (followers : List (Option ℕ)) (values : List ℕ) (count : ℕ) : Type 0 where

@@ -73,12 +73,10 @@ fn map_of_text(alloc: Global, text: &ReadText, limit: u32) -> Result<RootedMap, 
         return Err(MapRefusal::TooMany { edges: text.edges });
     }
     match rotation_of_lines(alloc, &text.darts, &text.sizes) {
-        Ok(sigma) => RootedMap::from_rotation(
-            alloc,
-            sigma,
-            text.root as u32,
-            vertex_count(&text.sizes),
-        ),
+        Ok(sigma) => {
+            let vertices = vertex_count(&text.sizes);
+            RootedMap::from_rotation(alloc, sigma, text.root as u32, vertices)
+        }
         Err(refusal) => Err(refusal),
     }
 }

@@ -19,8 +19,8 @@ returns-in-Ok c =
     answer_of_rotation c.args.text.now.edges c.args.text.now.root c.args.limit c.args.text.now.darts.items c.args.text.now.sizes.items c.in-Ok.sigma.items c.from_rotation.result
     (omega (arith, c.if-text-from.false, c.from.ensures)) c.requires.limit told c.from_rotation.ensures
 
-pub vertex_count-requires : goal.vertex_count-requires
-vertex_count-requires c =
+pub vertex_count-vertices-requires : goal.vertex_count-vertices-requires
+vertex_count-vertices-requires c =
     let are = sizes_of_text c.args.text.now.edges c.args.text.now.root c.args.text.now.darts.items c.args.text.now.sizes.items c.requires.lines in
     let few = lines_within c.args.text.now.darts.items c.args.text.now.sizes.items are in
     let size : length c.deref-in-Ok.result.now ≡ length c.args.text.now.sizes.items = ap length c.deref-in-Ok.ensures.value in
@@ -35,6 +35,6 @@ from_rotation-requires-clause-permutation c =
 pub from_rotation-requires-clause-counted : goal.from_rotation-requires-clause-counted
 from_rotation-requires-clause-counted c =
     let told = rw (c.deref.ensures.value, c.deref-2.ensures.value) at c.in-Ok.ensures in
-    c.vertex_count.ensures ∙ ap vertices_of_lines c.deref-in-Ok.ensures.value
+    c.vertex_count-vertices.ensures ∙ ap vertices_of_lines c.deref-in-Ok.ensures.value
     ∙ lines_are_vertices c.args.text.now.darts.items c.args.text.now.sizes.items c.in-Ok.sigma.items c.from.result
     (sizes_of_text c.args.text.now.edges c.args.text.now.root c.args.text.now.darts.items c.args.text.now.sizes.items c.requires.lines) told

@@ -1,5 +1,9 @@
-use Rattle.pm_mapfile.specs.Rotation.{AreFollowers}
+use Rattle.pm_mapfile.specs.Rotation.{turned_lines, AreFollowers}
+use Rattle.pm_mapfile.proofs.RotationLemmas.{AreWritingLines}
 use Rattle.pm_mapfile.proofs.rotation.write_followers.Given as goal
 
+abbrev pub invariant-lines : goal.invariant-lines
+invariant-lines l = AreWritingLines l.sizes l.darts l.followers l.size-index l.start
+
 abbrev pub invariant-places : goal.invariant-places
-invariant-places l = AreFollowers l.darts l.after l.place l.followers
+invariant-places l = AreFollowers l.darts (turned_lines l.sizes l.darts) l.place l.followers
