@@ -25,6 +25,8 @@ MAP_NODES = [5_000, 50_000, 500_000]
 SAMPLE_NODES = [1_000, 10_000, 100_000, 1_000_000]
 PROFILE_NODES = [1_000, 10_000, 100_000, 300_000]
 PROFILE_DEGREES = [[4], [2, 4, 6]]
+DRAWINGS = [(10, 1_000), (100, 1_000), (1_000, 1_000), (10_000, 100), (100_000, 10), (1_000_000, 1)]
+DRAW_SEED = 1
 
 
 class Run:
@@ -119,12 +121,20 @@ def start_up(programs):
 
 class Case:
     """One input: how it is called, how many edges its map has, and the steps that make its file. A step is the words of a
-    program, whose output is the next one's input; the last one's output is the file."""
+    program, whose output is the next one's input; the last one's output is the file. Without steps there is no input."""
 
     def __init__(self, label, edges, steps):
         self.label = label
         self.edges = edges
         self.steps = steps
+
+    def size(self):
+        """How large the case is, for a row of a table."""
+        return f"{self.edges:,}"
+
+    def rate(self, seconds):
+        """What these seconds come to."""
+        return f"{seconds / self.edges * 1e9:.0f}"
 
     def make(self, folder):
         """Makes the file. Answers its name, and whether each step ended well."""
@@ -135,6 +145,21 @@ class Case:
             right = run(words, source, target).status == 0 and right
             source = target
         return source, right
+
+
+class Drawing(Case):
+    """Some records of maps with so many vertices, drawn by one command that reads nothing."""
+
+    def __init__(self, nodes, records):
+        super().__init__(f"{nodes:,}", 2 * nodes * records, [])
+        self.records = records
+        self.words = ["draw", "quartic", str(nodes), str(DRAW_SEED), str(records)]
+
+    def size(self):
+        return f"{self.records:,}"
+
+    def rate(self, seconds):
+        return f"{self.records / seconds:,.1f}"
 
 
 def answer_once(programs, words, source, answers):
@@ -149,9 +174,9 @@ def answer_once(programs, words, source, answers):
 
 
 def answer_row(case, results, same, floor):
-    """One row of the table: the program, its time per edge, then the other one, the ratios and whether they agree."""
-    cells = [case.label, f"{case.edges:,}", str(results[0].status), f"{results[0].seconds:.3f}"]
-    cells += [f"{results[0].seconds / case.edges * 1e9:.0f}", megabytes(results[0].kilobytes, floor)]
+    """One row of the table: the program, its rate, then the other one, the ratios and whether they agree."""
+    cells = [case.label, case.size(), str(results[0].status), f"{results[0].seconds:.3f}"]
+    cells += [case.rate(results[0].seconds), megabytes(results[0].kilobytes, floor)]
     if len(results) == 2:
         other = results[1]
         cells += [f"{other.seconds:.3f}", megabytes(other.kilobytes, floor)]
@@ -161,9 +186,9 @@ def answer_row(case, results, same, floor):
     row(cells)
 
 
-def answer_table(programs, folder, title, words_of, cases, floor):
+def answer_table(programs, folder, title, words_of, cases, floor, sizes="edges", rates="ns per edge"):
     """One table of a command on some inputs. Answers whether all went right."""
-    titles = [title, "edges", "status", "seconds", "ns per edge", "MB"]
+    titles = [title, sizes, "status", "seconds", rates, "MB"]
     if len(programs) == 2:
         titles += ["other: seconds", "other: MB", "ratio of seconds", "ratio of MB", "same output"]
     head(titles)
@@ -215,6 +240,9 @@ def main():
     floor, right = start_up(programs)
     for title, words_of, cases in tables(programs[0][1]):
         right = answer_table(programs, folder, title, words_of, cases, floor) and right
+    drawings = [Drawing(nodes, records) for nodes, records in DRAWINGS]
+    title, sizes, rates = "Drawings, `draw quartic`", "records", "records per second"
+    right = answer_table(programs, folder, title, lambda case: case.words, drawings, floor, sizes, rates) and right
     if right:
         same = ", and both programs printed the same." if len(programs) == 2 else "."
         print("Each run ended with the right status" + same)

@@ -43,7 +43,7 @@ unfinished_choices_line bytes text new after ended e next =
     one_line_unfinished IsChoicesFile after (codes "choices\n") bytes text new choices_form some_choices_file (subst (λ (b : Bool). IsNextLine (reading_of bytes) new text b after) e next)
 
 -- the line of a list, with its newline
-line_of : (text c : List ℕ) → SpellsList (codes "choices") text c → IsChoicesLine c (text ++ newline ∷ [])
+pub line_of : (text c : List ℕ) → SpellsList (codes "choices") text c → IsChoicesLine c (text ++ newline ∷ [])
 line_of text c h =
     let one = (has_one_line (codes "choices") text c).0 h in
     record { fit = one.0; spelled = ap (λ (t : List ℕ). t ++ newline ∷ []) one.1 }

@@ -1,7 +1,11 @@
+pub mod Beginnings
 pub mod ChoicesLines
+pub mod DrawWords
 pub mod EndingLemmas
 pub mod MapFiles
+pub mod NumberWords
 pub mod OneAnswer
+pub mod Records
 pub mod SampleWords
 pub mod Sizes
 pub mod TreeLines

@@ -1,5 +1,5 @@
 -- Words and bytes have one answer.
-use Rattle.std.proofs.Common.{◌≡◌, ℕ, ◌⊎◌, inl, inr, List, ◌++◌, ◌∷◌, [], length, refl, sym, ap, ◌∙◌, subst, arith}
+use Rattle.std.proofs.Common.{◌≡◌, ℕ, ◌⊎◌, true, false, inl, inr, List, ◌++◌, ◌∷◌, [], length, refl, sym, ap, ◌∙◌, subst, arith}
 use Rattle.std.proofs.lemmas.Bool.{cases_order}
 use Rattle.std.proofs.lemmas.Fmt.{decimal_injective}
 use Rattle.std.proofs.Common.{ap₂}
@@ -35,7 +35,7 @@ use Rattle.pm_mapfile.proofs.OneAnswer.{one_file_answer}
 use Rattle.pm_close.proofs.RootedClosure.{one_closure}
 use Rattle.pm_close.proofs.PlaneMap.{rooted_closure}
 use Rattle.pm_cli.specs.declared.words.Command.{Command}
-use Rattle.pm_cli.specs.declared.words.Command.TheVariants.{CloseEulerian, Canon, CheckGeneral, CheckQuartic, SampleQuartic}
+use Rattle.pm_cli.specs.declared.words.Command.TheVariants.{CloseEulerian, Canon, CheckGeneral, CheckQuartic, SampleQuartic, DrawQuartic}
 use Rattle.pm_cli.specs.declared.refusal.Limit.TheVariants.{Bytes, Letters, Edges}
 use Rattle.pm_cli.specs.declared.refusal.MapRule.TheVariants.{Permutation, Connected, Euler, Empty, Vertex, Face, Loop, Double}
 use Rattle.pm_cli.specs.declared.refusal.TreeRule.TheVariants.{Degree, Buds, Matched}
@@ -44,13 +44,17 @@ use Rattle.pm_cli.specs.declared.refusal.Refusal.TheVariants.{Usage, Text, Limit
 use Rattle.pm_cli.specs.TreeFile.{IsTreeLine, IsTreeFile}
 use Rattle.pm_cli.specs.Closing.{ClosesTo, IsMatchedPlant, ClosesEulerian}
 use Rattle.pm_cli.specs.MapCommands.{HasMap, RefusesMapFile, AnswersMapFile, HasCanonicalText, IsCountsText, IsCountedIn, ChecksQuartic}
+use Rattle.pm_draw.specs.Drawn.{generator_of, words_of}
 use Rattle.pm_cli.specs.Sampling.{IsChoicesFile, HasChoices, IsSampleText, Samples}
+use Rattle.pm_cli.specs.Drawing.{Draws}
 use Rattle.pm_cli.proofs.ChoicesLines.{one_choices}
+use Rattle.pm_cli.proofs.NumberWords.{third_of_five, fourth_of_five, fifth}
+use Rattle.pm_cli.proofs.Records.{records_once}
 use Rattle.pm_euler.specs.Bounds.{quartic_choices}
 use Rattle.pm_euler.specs.Quartic.{IsQuarticSize, SamplesQuartic}
 use Rattle.pm_euler.proofs.OneSample.{one_quartic_sample}
-use Rattle.pm_cli.specs.Commands.{spelling, IsCommand, IsNoCommand}
-use Rattle.pm_cli.specs.Answer.{no_command, too_long, of_file, CommandAnswers}
+use Rattle.pm_cli.specs.Commands.{spelling, reads, AreDrawNumbers, IsCommand, Spells, IsNoCommand}
+use Rattle.pm_cli.specs.Answer.{no_command, too_long, of_file, of_words, CommandAnswers}
 use Rattle.pm_cli.specs.Laws.{HasOneAnswer}
 use Rattle.pm_cli.proofs.TreeLines.{one_word}
 
@@ -428,7 +432,7 @@ one_list_refusal values bounds (list.Entry p v b) (list.Entry q w c) x y =
 module _ (bounds : List ℕ) (samples : List ℕ → RotationSystem → List ℕ → Type 0)
     (one : (choices : List ℕ) (m n : RotationSystem) (r q : List ℕ) → samples choices m r → samples choices n q → (m ≡ n) × (r ≡ q))
     (valid : (choices : List ℕ) (m : RotationSystem) (r : List ℕ) → samples choices m r → IsValidList choices bounds) where
-  one_sample_text : (choices a b : List ℕ) → IsSampleText samples choices a → IsSampleText samples choices b → a ≡ b
+  pub one_sample_text : (choices a b : List ℕ) → IsSampleText samples choices a → IsSampleText samples choices b → a ≡ b
   one_sample_text choices a b x y =
       let same = one choices x.map y.map x.residue y.residue x.sampled y.sampled in
       let map_text = one_text y.map x.is_text.map_text y.is_text.map_text (subst (λ (m : RotationSystem). IsMapText m x.is_text.map_text) same.0 x.is_text.is_map_text) y.is_text.is_map_text in
@@ -474,6 +478,12 @@ module _ (bounds : List ℕ) (samples : List ℕ → RotationSystem → List ℕ
   samples_once bytes (Err (Tree broken)) b x y = absurd x
   samples_once bytes (Err (Usage matched)) b x y = absurd x
 
+  -- and drawing has one
+  draws_once : (seed count : ℕ) (a b : Result (List ℕ) Refusal) → Draws bounds samples seed count a → Draws bounds samples seed count b → a ≡ b
+  draws_once seed count (Ok text) (Ok other) x y = ap Ok (records_once bounds samples one_sample_text (words_of (generator_of seed)) count text other x y)
+  draws_once seed count (Ok text) (Err refusal) x y = absurd y
+  draws_once seed count (Err refusal) b x y = absurd x
+
 -- the first letter of the second word
 initial : List (List ℕ) → ℕ
 initial [] = 0
@@ -486,7 +496,7 @@ unfolding initial
 apart same = let e = ap initial same in omega (arith, e)
 
 -- words are those of one command
-one_command : (command other : Command) → IsCommand command → IsCommand other → spelling command ≡ spelling other → command ≡ other
+pub one_command : (command other : Command) → IsCommand command → IsCommand other → spelling command ≡ spelling other → command ≡ other
 one_command CloseEulerian CloseEulerian is other same = refl
 one_command Canon Canon is other same = refl
 one_command CheckGeneral CheckGeneral is other same = refl
@@ -497,6 +507,20 @@ one_command (SampleQuartic size) (SampleQuartic other_size) is other same = ap S
 
   one_size : (a b : ℕ) → IsQuarticSize a → IsQuarticSize b → decimal a ≡ decimal b → a ≡ b
   one_size a b x y e = let p = x.few in let q = y.few in decimal_injective a b (omega arith) (omega arith) e
+one_command (DrawQuartic size seed count) (DrawQuartic other_size other_seed other_count) is other same =
+    one_drawing (one_size size other_size is.0 other.0 (third_of_five same)) (one_seed seed count other_seed other_count is.1 other.1 (fourth_of_five same))
+    (one_count seed count other_seed other_count is.1 other.1 (fifth same)) where
+      one_drawing : {a b c d e f : ℕ} → a ≡ d → b ≡ e → c ≡ f → DrawQuartic a b c ≡ DrawQuartic d e f
+      one_drawing x y z = cc
+
+      one_size : (a b : ℕ) → IsQuarticSize a → IsQuarticSize b → decimal a ≡ decimal b → a ≡ b
+      one_size a b x y e = let p = x.few in let q = y.few in decimal_injective a b (omega arith) (omega arith) e
+
+      one_seed : (s c t d : ℕ) → AreDrawNumbers s c → AreDrawNumbers t d → decimal s ≡ decimal t → s ≡ t
+      one_seed s c t d x y e = decimal_injective s t x.fits y.fits e
+
+      one_count : (s c t d : ℕ) → AreDrawNumbers s c → AreDrawNumbers t d → decimal c ≡ decimal d → c ≡ d
+      one_count s c t d x y e = let p = x.few in let q = y.few in decimal_injective c d (omega arith) (omega arith) e
 one_command CloseEulerian Canon is other same = cc
 one_command CloseEulerian CheckGeneral is other same = cc
 one_command CloseEulerian CheckQuartic is other same = cc
@@ -517,6 +541,16 @@ one_command (SampleQuartic size) CloseEulerian is other same = cc
 one_command (SampleQuartic size) Canon is other same = cc
 one_command (SampleQuartic size) CheckGeneral is other same = cc
 one_command (SampleQuartic size) CheckQuartic is other same = cc
+one_command CloseEulerian (DrawQuartic other_size other_seed other_count) is other same = cc
+one_command Canon (DrawQuartic other_size other_seed other_count) is other same = cc
+one_command CheckGeneral (DrawQuartic other_size other_seed other_count) is other same = cc
+one_command CheckQuartic (DrawQuartic other_size other_seed other_count) is other same = cc
+one_command (SampleQuartic size) (DrawQuartic other_size other_seed other_count) is other same = cc
+one_command (DrawQuartic size seed count) CloseEulerian is other same = cc
+one_command (DrawQuartic size seed count) Canon is other same = cc
+one_command (DrawQuartic size seed count) CheckGeneral is other same = cc
+one_command (DrawQuartic size seed count) CheckQuartic is other same = cc
+one_command (DrawQuartic size seed count) (SampleQuartic other_size) is other same = cc
 
 -- a command has one answer to a file
 answers_once : (command : Command) → IsCommand command → (bytes : List ℕ) (a b : Result (List ℕ) Refusal) → CommandAnswers command bytes a → CommandAnswers command bytes b → a ≡ b
@@ -525,6 +559,16 @@ answers_once Canon is bytes a b x y = map_answers_once MAX_EDGES HasCanonicalTex
 answers_once CheckGeneral is bytes a b x y = map_answers_once (MAX_EDGES / 2) IsCountsText one_counts_text bytes a b x y
 answers_once CheckQuartic is bytes a b x y = quartic_once bytes a b x y
 answers_once (SampleQuartic size) is bytes a b x y = samples_once (quartic_choices size) (SamplesQuartic size) (one_quartic_sample size is) (λ choices m r h. h.valid) bytes a b x y
+answers_once (DrawQuartic size seed count) is bytes a b x y =
+    draws_once (quartic_choices size) (SamplesQuartic size) (one_quartic_sample size is.0) (λ choices m r h. h.valid) seed count a b x y
+
+-- words don't spell a command that reads and one that reads nothing
+reads_or_not : (words : List (List ℕ)) (command other : Command) → Spells words command → Spells words other → reads command ≡ true → reads other ≡ false → ⊥
+reads_or_not words command other x y reader none =
+    let same = one_command command other x.is_command y.is_command (sym x.same ∙ y.same) in
+    true_false (sym reader ∙ ap reads same ∙ none) where
+      true_false : true ≡ false → ⊥
+      true_false e = cc
 
 pub has_one_answer : HasOneAnswer
 has_one_answer words bytes one other (no_command k none) (no_command j none') =
@@ -533,6 +577,15 @@ has_one_answer words bytes one other (no_command k none) (no_command j none') =
       greatest_is_one words k j a b = omega (arith, a.greatest j b.begins, b.greatest k a.begins)
 has_one_answer words bytes one other (no_command k none) (too_long command spells _ _) = absurd (none.none command spells)
 has_one_answer words bytes one other (no_command k none) (of_file command spells _ _ _ _) = absurd (none.none command spells)
+has_one_answer words bytes one other (no_command k none) (of_words command spells _ _ _) = absurd (none.none command spells)
+has_one_answer words bytes one other (of_words command spells _ _ _) (no_command k none) = absurd (none.none command spells)
+has_one_answer words bytes one other (too_long command spells reader _) (of_words command' spells' none _ _) = absurd (reads_or_not words command command' spells spells' reader none)
+has_one_answer words bytes one other (of_words command' spells' none _ _) (too_long command spells reader _) = absurd (reads_or_not words command command' spells spells' reader none)
+has_one_answer words bytes one other (of_file command spells reader _ _ _) (of_words command' spells' none _ _) = absurd (reads_or_not words command command' spells spells' reader none)
+has_one_answer words bytes one other (of_words command' spells' none _ _) (of_file command spells reader _ _ _) = absurd (reads_or_not words command command' spells spells' reader none)
+has_one_answer words bytes one other (of_words command spells _ a x) (of_words command' spells' _ b y) =
+    let same : command' ≡ command = one_command command' command spells'.is_command spells.is_command (sym spells'.same ∙ spells.same) in
+    answers_once command spells.is_command bytes a b x (subst (λ (c : Command). CommandAnswers c bytes b) same y)
 has_one_answer words bytes one other (too_long command spells _ _) (no_command k none) = absurd (none.none command spells)
 has_one_answer words bytes one other (of_file command spells _ _ _ _) (no_command k none) = absurd (none.none command spells)
 has_one_answer words bytes one other (too_long command spells _ long) (too_long command' spells' _ long') = refl

@@ -3,12 +3,12 @@ use Rattle.std.proofs.Common.{◌≡◌, ℕ, zero, suc, ◌<◌, ◌≤◌, inl
 use Rattle.std.specs.Prelude.{codes, decimal, slice_index_or}
 use Rattle.std.proofs.lemmas.Bool.{cases_lt}
 use Rattle.pm_cli.specs.declared.words.Command.{Command}
-use Rattle.pm_cli.specs.declared.words.Command.TheVariants.{CloseEulerian, Canon, CheckGeneral, CheckQuartic, SampleQuartic}
+use Rattle.pm_cli.specs.declared.words.Command.TheVariants.{CloseEulerian, Canon, CheckGeneral, CheckQuartic, SampleQuartic, DrawQuartic}
 use Rattle.pm_euler.specs.Quartic.{IsQuarticSize}
 use Rattle.pm_cli.specs.Commands.{spelling, IsCommand, Spells, Begins, IsNoCommand}
 
 -- equal fronts have equal shorter fronts
-front : (k j : ℕ) (xs ys : List (List ℕ)) → k ≤ j → take j xs ≡ take j ys → take k xs ≡ take k ys
+pub front : (k j : ℕ) (xs ys : List (List ℕ)) → k ≤ j → take j xs ≡ take j ys → take k xs ≡ take k ys
 front k j xs ys le e = sym (shorter k j xs le) ∙ ap (take k) e ∙ shorter k j ys le where
   shorter : (k j : ℕ) (xs : List (List ℕ)) → k ≤ j → take k (take j xs) ≡ take k xs
   shorter zero j xs le = refl
@@ -16,15 +16,16 @@ front k j xs ys le e = sym (shorter k j xs le) ∙ ap (take k) e ∙ shorter k j
   shorter (suc k) (suc j) [] le = refl
   shorter (suc k) (suc j) (x ∷ xs) le = ap (λ (ys : List (List ℕ)). x ∷ ys) (shorter k j xs (omega arith))
 
--- no command has more than three words
-short : (command : Command) → length (spelling command) ≤ 3
-short CloseEulerian = omega arith
-short Canon = omega arith
-short CheckGeneral = omega arith
-short CheckQuartic = omega arith
-short (SampleQuartic size) = omega arith
+-- no command that begins with `sample` has more than three words
+short : (command : Command) → take 1 (spelling command) ≡ codes "sample" ∷ [] → length (spelling command) ≤ 3
+short CloseEulerian e = cc
+short Canon e = cc
+short CheckGeneral e = cc
+short CheckQuartic e = cc
+short (SampleQuartic size) e = omega arith
+short (DrawQuartic size seed count) e = cc
 
-one_is_a_size : IsQuarticSize 1
+pub one_is_a_size : IsQuarticSize 1
 one_is_a_size = record { some = omega arith; few = omega arith }
 
 -- the command that begins with `sample`
@@ -37,6 +38,7 @@ sampling Canon is e = cc
 sampling CheckGeneral is e = cc
 sampling CheckQuartic is e = cc
 sampling (SampleQuartic size) is e = of_size size refl is
+sampling (DrawQuartic size seed count) is e = cc
 
 -- more words than this begin no command, where so many and one more do not
 begins_no_more : (ws : List (List ℕ)) (k : ℕ) → 0 < k → take 1 ws ≡ codes "sample" ∷ []
@@ -58,7 +60,7 @@ spells_none ws k first none command s =
       | of_size size e is ↦ none size is (ap (take (suc k)) (s.same ∙ ap spelling e))
     ]
 
-some_words : (ws : List (List ℕ)) (k : ℕ) → length (take k ws) ≡ k → k ≤ length ws
+pub some_words : (ws : List (List ℕ)) (k : ℕ) → length (take k ws) ≡ k → k ≤ length ws
 some_words ws k e = omega (arith, length-take k ws, e)
 
 -- `sample` alone, or with another class
@@ -71,6 +73,9 @@ sample_alone ws first other = record {
 
 first_of_two : (ws : List (List ℕ)) (a b : List ℕ) → take 2 ws ≡ a ∷ b ∷ [] → take 1 ws ≡ a ∷ []
 first_of_two ws a b e = front 1 2 ws (a ∷ b ∷ []) (omega arith) e
+
+first_of_three : (ws : List (List ℕ)) (a b c : List ℕ) → take 3 ws ≡ a ∷ b ∷ c ∷ [] → take 1 ws ≡ a ∷ []
+first_of_three ws a b c e = front 1 3 ws (a ∷ b ∷ c ∷ []) (omega arith) e
 
 -- with the class and no size
 pub sample_class : (ws : List (List ℕ)) → take 2 ws ≡ codes "sample" ∷ codes "quartic" ∷ []
@@ -89,10 +94,16 @@ sample_more ws size is three more = record {
   greatest = λ j b. within j b;
 } where
   too_many : (command : Command) → Spells ws command → ⊥
-  too_many command s = omega (arith, ap length s.same, short command)
+  too_many command s = omega (arith, ap length s.same, short command (sym (ap (take 1) s.same) ∙ first_of_three ws (codes "sample") (codes "quartic") (decimal size) three))
 
   within : (j : ℕ) → Begins ws j → j ≤ 3
-  within j b = omega (arith, b.within, ap length b.same, length-take j ws, length-take j (spelling b.command), short b.command)
+  within j b = elim (cases_lt 3 j) [
+    | inr fine ↦ fine
+    | inl beyond ↦
+        let first : take 1 (spelling b.command) ≡ codes "sample" ∷ [] =
+        sym (front 1 j ws (spelling b.command) (omega arith) b.same) ∙ first_of_three ws (codes "sample") (codes "quartic") (decimal size) three in
+        omega (arith, b.within, ap length b.same, length-take j ws, length-take j (spelling b.command), short b.command first)
+  ]
 
 -- the words by their places
 pub second_word : {X : Type 0} (f : X → List ℕ) (xs : List X) (d : X) (a : List ℕ) → take 1 (map f xs) ≡ a ∷ [] → 1 < length xs → take 2 (map f xs) ≡ a ∷ f (slice_index_or xs 1 d) ∷ []

@@ -22,3 +22,12 @@ spelled_size word value size number is e =
 
 pub spelled : (word : List ℕ) (value : ℕ) → IsNumber word value → word ≡ decimal value
 spelled word value number = ((has_one_spelling word value).0 number).1
+
+-- the same of any number of 64 bits
+pub spells_no_number : (word : List ℕ) → ((value : ℕ) → IsNumber word value → ⊥) → (n : ℕ) → n < 2 ^ 64 → word ≡ decimal n → ⊥
+spells_no_number word none n fits e = none n ((has_one_spelling word n).1 (fits, e))
+
+pub spelled_number : (word : List ℕ) (value n : ℕ) → IsNumber word value → n < 2 ^ 64 → word ≡ decimal n → value ≡ n
+spelled_number word value n number fits e =
+    let spelled = (has_one_spelling word value).0 number in
+    decimal_injective value n spelled.0 fits (sym spelled.1 ∙ e)

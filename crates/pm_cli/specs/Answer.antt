@@ -1,8 +1,8 @@
 -- The answer to words and bytes: the text for standard output, or why there is none.
-use Rattle.std.specs.Prelude.{◌≡◌, ℕ, ◌<◌, ◌≤◌, true, List, length, Result, Err}
+use Rattle.std.specs.Prelude.{◌≡◌, ℕ, ◌<◌, ◌≤◌, true, false, List, length, Result, Err}
 use Rattle.pm_io.specs.declared.TheConstants.{MAX_BYTES}
 use Rattle.pm_cli.specs.declared.words.Command.{Command}
-use Rattle.pm_cli.specs.declared.words.Command.TheVariants.{CloseEulerian, Canon, CheckGeneral, CheckQuartic, SampleQuartic}
+use Rattle.pm_cli.specs.declared.words.Command.TheVariants.{CloseEulerian, Canon, CheckGeneral, CheckQuartic, SampleQuartic, DrawQuartic}
 use Rattle.pm_cli.specs.declared.refusal.Limit.TheVariants.{Bytes}
 use Rattle.pm_cli.specs.declared.refusal.Refusal.{Refusal}
 use Rattle.pm_cli.specs.declared.refusal.Refusal.TheVariants.{Usage, Limited}
@@ -12,14 +12,16 @@ use Rattle.pm_cli.specs.Commands.{Spells, reads, IsNoCommand}
 use Rattle.pm_cli.specs.Closing.{ClosesEulerian}
 use Rattle.pm_cli.specs.MapCommands.{Canonizes, ChecksGeneral, ChecksQuartic}
 use Rattle.pm_cli.specs.Sampling.{Samples}
+use Rattle.pm_cli.specs.Drawing.{Draws}
 
--- what a command answers to a file within the limit
+-- what a command answers to a file within the limit; of one that reads nothing, what it answers
 abbrev pub CommandAnswers : Command → List ℕ → Result (List ℕ) Refusal → Type 0
 CommandAnswers CloseEulerian bytes answer = ClosesEulerian bytes answer
 CommandAnswers Canon bytes answer = Canonizes bytes answer
 CommandAnswers CheckGeneral bytes answer = ChecksGeneral bytes answer
 CommandAnswers CheckQuartic bytes answer = ChecksQuartic bytes answer
 CommandAnswers (SampleQuartic size) bytes answer = Samples (quartic_choices size) (SamplesQuartic size) bytes answer
+CommandAnswers (DrawQuartic size seed count) bytes answer = Draws (quartic_choices size) (SamplesQuartic size) seed count answer
 
 -- the answer, by the first rule that applies
 pub data Answers (words : List (List ℕ)) (bytes : List ℕ) : Result (List ℕ) Refusal → Type 0 where
@@ -27,4 +29,6 @@ pub data Answers (words : List (List ℕ)) (bytes : List ℕ) : Result (List ℕ
   too_long : (command : Command) → Spells words command → reads command ≡ true → MAX_BYTES < length bytes
       → Answers words bytes (Err (Limited Bytes))
   of_file : (command : Command) → Spells words command → reads command ≡ true → length bytes ≤ MAX_BYTES
+      → (answer : Result (List ℕ) Refusal) → CommandAnswers command bytes answer → Answers words bytes answer
+  of_words : (command : Command) → Spells words command → reads command ≡ false
       → (answer : Result (List ℕ) Refusal) → CommandAnswers command bytes answer → Answers words bytes answer

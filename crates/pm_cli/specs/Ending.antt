@@ -1,5 +1,5 @@
 -- How a run ends, and what stands in its streams then.
-use Rattle.std.specs.Prelude.{◌≡◌, ℕ, ◌<◌, ◌≤◌, ◌⊎◌, false, List, [], length, take, Option, Some, Result, Ok, Err, Vec, ⊤}
+use Rattle.std.specs.Prelude.{◌≡◌, ℕ, ◌<◌, ◌≤◌, ◌⊎◌, true, false, List, [], length, take, Option, Some, Result, Ok, Err, Vec, ⊤}
 use Rattle.std.specs.declared.alloc.Global.{Global}
 use Rattle.pm_io.specs.declared.TheConstants.{MAX_BYTES}
 use Rattle.pm_io.specs.Bytes.{added}
@@ -9,22 +9,31 @@ use Rattle.pm_cli.specs.declared.refusal.Limit.TheVariants.{Bytes}
 use Rattle.pm_cli.specs.declared.refusal.Refusal.TheVariants.{Limited}
 use Rattle.pm_cli.specs.declared.refusal.Stop.{Stop}
 use Rattle.pm_cli.specs.declared.refusal.Stop.TheVariants.{Refused, Read, Write, Memory}
-use Rattle.pm_cli.specs.Commands.{Spells, reads}
+use Rattle.pm_cli.specs.Commands.{Spells, reads, writes_records}
 use Rattle.pm_cli.specs.Answer.{Answers}
+use Rattle.pm_cli.specs.Beginning.{IsFirstRecords, BeginsAnswer}
 use Rattle.pm_cli.specs.Lines.{line_of}
 
 -- the words are no command that reads
 abbrev pub ReadNothing : List (List ℕ) → Type 0
 ReadNothing words = (command : Command) → Spells words command → reads command ≡ false
 
+-- the words are no command that reads nothing
+abbrev pub ReadInput : List (List ℕ) → Type 0
+ReadInput words = (command : Command) → Spells words command → reads command ≡ true
+
+-- the words are no command that writes its answer record by record
+abbrev pub WriteWhole : List (List ℕ) → Type 0
+WriteWhole words = (command : Command) → Spells words command → writes_records command ≡ false
+
 -- the input holds these bytes, where it tells them; where the words read nothing, any bytes serve
 abbrev pub IsInput : List (List ℕ) → Option (List ℕ) → List ℕ → Type 0
 IsInput words left bytes = (left ≡ Some bytes) ⊎ ReadNothing words
 
--- some text is the answer, and its first n bytes were added to the output
+-- some text is the answer or its first records, and its first n bytes were added to the output
 pub record HasWritten (words : List (List ℕ)) (bytes : List ℕ) (old new : Option (List ℕ)) : Type 0 where
   pub text : List ℕ
-  pub answers : Answers words bytes (Ok text)
+  pub begins : BeginsAnswer words bytes text
   pub front : ℕ
   pub written : new ≡ added old (take front text)
 
@@ -34,14 +43,23 @@ pub record HasAnswered (words : List (List ℕ)) (bytes : List ℕ) (old new : O
   pub answers : Answers words bytes (Ok text)
   pub written : new ≡ added old text
 
--- What was added to the output: the whole answer; nothing where the words and bytes are refused, as they are then, where
--- the input failed, and where memory was wanting; a front of the answer where the output failed.
+-- the first records of the answer were added to the output
+pub record HasBegun (words : List (List ℕ)) (old new : Option (List ℕ)) : Type 0 where
+  pub command : Command
+  pub spells : Spells words command
+  pub text : List ℕ
+  pub records : IsFirstRecords command text
+  pub written : new ≡ added old text
+
+-- What was added to the output: the whole answer; nothing where the words and bytes are refused, as they are then, and
+-- where the input failed; a front of the answer where the output failed; nothing where memory was wanting, or the first
+-- records of an answer that is written record by record.
 abbrev pub EndsBy : List (List ℕ) → List ℕ → Option (List ℕ) → Option (List ℕ) → Result (Unit {0}) Stop → Type 0
 EndsBy words bytes old new (Ok done) = HasAnswered words bytes old new
 EndsBy words bytes old new (Err (Refused refusal)) = Answers words bytes (Err refusal) × (new ≡ old)
 EndsBy words bytes old new (Err Read) = new ≡ old
 EndsBy words bytes old new (Err Write) = HasWritten words bytes old new
-EndsBy words bytes old new (Err Memory) = new ≡ old
+EndsBy words bytes old new (Err Memory) = (new ≡ old) ⊎ HasBegun words old new
 
 -- the same for all bytes that the input may hold
 abbrev pub Ends : List (List ℕ) → Option (List ℕ) → Option (List ℕ) → Option (List ℕ) → Result (Unit {0}) Stop → Type 0
@@ -75,6 +93,27 @@ abbrev pub IsWriting : List ℕ → Option (List ℕ) → Option (List ℕ) → 
 IsWriting text old new faults_old faults_new (Ok done) = (new ≡ added old text) × (faults_new ≡ faults_old)
 IsWriting text old new faults_old faults_new (Err Write) = ((n : ℕ) × (new ≡ added old (take n text))) × FaultsRose faults_old faults_new
 IsWriting text old new faults_old faults_new (Err stop) = ⊥
+
+-- a text of the one kind was added
+pub record HasAdded (text_is : List ℕ → Type 0) (old new : Option (List ℕ)) : Type 0 where
+  pub text : List ℕ
+  pub holds : text_is text
+  pub written : new ≡ added old text
+
+-- the first n bytes of a text of that kind were added
+pub record HasAddedFront (text_is : List ℕ → Type 0) (old new : Option (List ℕ)) : Type 0 where
+  pub text : List ℕ
+  pub holds : text_is text
+  pub front : ℕ
+  pub written : new ≡ added old (take front text)
+
+-- all records were written, or a front of the first ones where the output failed, or the first ones where memory was
+-- wanting
+abbrev pub IsWritingRecords : (List ℕ → Type 0) → (List ℕ → Type 0) → Option (List ℕ) → Option (List ℕ) → ℕ → ℕ → Result (Unit {0}) Stop → Type 0
+IsWritingRecords all first old new faults_old faults_new (Ok done) = HasAdded all old new × (faults_new ≡ faults_old)
+IsWritingRecords all first old new faults_old faults_new (Err Write) = HasAddedFront first old new × FaultsRose faults_old faults_new
+IsWritingRecords all first old new faults_old faults_new (Err Memory) = HasAdded first old new
+IsWritingRecords all first old new faults_old faults_new (Err stop) = ⊥
 
 -- where the input told its bytes, none are left
 abbrev pub HasNothingLeft : Option (List ℕ) → Option (List ℕ) → Type 0

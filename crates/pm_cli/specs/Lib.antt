@@ -1,8 +1,10 @@
 pub mod Answer
 pub mod Answering
+pub mod Beginning
 pub mod ChoicesFile
 pub mod Closing
 pub mod Commands
+pub mod Drawing
 pub mod Ending
 pub mod Laws
 pub mod Lines

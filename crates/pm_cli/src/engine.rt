@@ -3,12 +3,14 @@ ghost use Rattle.std.specs.Result.{IsErrOf};
 ghost use Rattle.pm_io.specs.Bytes.{added};
 ghost use Rattle.pm_io.specs.Faults.{FaultsRose};
 ghost use Rattle.pm_cli.specs.declared.refusal.Stop.{Stop};
-ghost use Rattle.pm_cli.specs.Ending.{Ends, IsTold, IsToldFor, IsReading, IsWriting, HasNothingLeft};
+ghost use Rattle.pm_cli.specs.Ending.{Ends, IsTold, IsToldFor, IsReading, IsWriting, HasNothingLeft, ReadInput, ReadNothing, WriteWhole};
 ghost use Rattle.pm_cli.specs.Lines.{status_of, status_of_stop};
 
 use crate::answer::answer;
+use crate::draw::draw;
 use crate::refusal::{Limit, Refusal, Stop};
 use crate::words::Command;
+use pm_euler::Quartic;
 use pm_io::{Failed, MAX_BYTES, ReadRefusal, Sink, Source, read_all};
 use std::alloc::Global;
 
@@ -38,7 +40,7 @@ fn write_text<O: Sink>(out: &mut O, text: &[u8]) -> Result<(), Stop>
     }
 }
 
-// Does what the words say: reads, answers and writes.
+// Does what the words say: reads, answers and writes, or draws records and writes them.
 fn perform<S: Source, O: Sink>(
     alloc: Global,
     words: &[String],
@@ -47,8 +49,10 @@ fn perform<S: Source, O: Sink>(
 ) -> Result<(), Stop>
     ensures ends { Ends (map string_bytes words.now) (S.left input.old) (O.holds out.old) (O.holds out.new) result }
 
-    ensures nothing_added { IfErr result (λ stop. stop ≢ Stop.Write → O.holds out.new ≡ O.holds out.old) }
-    ensures all_read { OnOk result (HasNothingLeft (S.left input.old) (S.left input.new)) }
+    ensures nothing_added { IfErr result (λ stop. stop ≢ Stop.Write → (stop ≡ Stop.Memory → WriteWhole (map string_bytes words.now))
+        → O.holds out.new ≡ O.holds out.old) }
+    ensures all_read { OnOk result (ReadInput (map string_bytes words.now) → HasNothingLeft (S.left input.old) (S.left input.new)) }
+    ensures unread { ReadNothing (map string_bytes words.now) → input.new ≡ input.old }
     ensures untouched { IfErr result (λ stop. status_of_stop stop ≡ 2 → input.new ≡ input.old) }
     ensures read { IsErrOf result Stop.Read → FaultsRose (S.faults input.old) (S.faults input.new) }
     ensures calm_read { MatchResult result (λ _. S.faults input.new ≡ S.faults input.old)
@@ -60,6 +64,9 @@ fn perform<S: Source, O: Sink>(
         Ok(command) => command,
         Err(matched) => return Err(Stop::Refused(Refusal::Usage { matched })),
     };
+    if let Command::DrawQuartic { size, seed, count } = command {
+        return draw::<Quartic, O>(alloc, &size, seed, count, out);
+    }
     let bytes = match read_input(alloc, input) {
         Ok(bytes) => bytes,
         Err(stop) => return Err(stop),
@@ -116,9 +123,10 @@ fn write_line<E: Sink>(err: &mut E, line: &[u8])
 /// Does all that the program does: takes the words after the program's name, reads `input`, writes the answer to `out`
 /// and, where there is none, a line to `err`, and answers the status.
 ///
-/// All input is read before the first write. The statuses are 0 for an answer; 2 for words that are no command; 3, 7 and
-/// 12 for a file that is refused by its text, a limit or the tree's rules; 5 where `input` failed, 8 where `out` failed
-/// and 9 where memory was wanting. A failing `err` changes no status.
+/// All input is read before the first write; a command that draws reads nothing, and writes record by record. The
+/// statuses are 0 for an answer; 2 for words that are no command; 3, 4, 6, 7 and 12 for a file that is refused by its text,
+/// its list, its map, a limit or the tree's rules; 5 where `input` failed, 8 where `out` failed and 9 where memory was
+/// wanting. A failing `err` changes no status.
 pub fn run<S: Source, O: Sink, E: Sink>(
     alloc: Global,
     words: &[String],
@@ -133,9 +141,11 @@ pub fn run<S: Source, O: Sink, E: Sink>(
         × Ends (map string_bytes words.now) (S.left input.old) (O.holds out.old) (O.holds out.new) end
         × IsTold (E.holds err.old) (E.holds err.new) (E.faults err.old) (E.faults err.new) end }
     ensures no_line { result ≡ 0 → err.new ≡ err.old }
-    ensures nothing_added { result ≢ 0 → result ≢ 8 → O.holds out.new ≡ O.holds out.old }
-    ensures all_read { result ≡ 0 → HasNothingLeft (S.left input.old) (S.left input.new) }
+    ensures nothing_added { result ≢ 0 → result ≢ 8 → (result ≡ 9 → WriteWhole (map string_bytes words.now))
+        → O.holds out.new ≡ O.holds out.old }
+    ensures all_read { result ≡ 0 → ReadInput (map string_bytes words.now) → HasNothingLeft (S.left input.old) (S.left input.new) }
     ensures untouched { result ≡ 2 → input.new ≡ input.old }
+    ensures unread { ReadNothing (map string_bytes words.now) → input.new ≡ input.old }
 
     ensures read { result ≡ 5 → FaultsRose (S.faults input.old) (S.faults input.new) }
     ensures calm_input { result ≢ 5 → result ≢ 9 → S.faults input.new ≡ S.faults input.old }

@@ -6,6 +6,7 @@ mod canon;
 mod check;
 mod choices_file;
 mod close;
+mod draw;
 mod engine;
 mod laws;
 mod map_file;
@@ -15,9 +16,11 @@ mod tree_file;
 mod words;
 
 pub use engine::run;
-pub use laws::words_and_bytes_have_one_answer;
+pub use laws::{beginning_is_front, words_and_bytes_have_one_answer};
 pub use refusal::{Limit, MapRule, Refusal, Stop, TreeRule};
-pub use words::Command;
+pub use words::{Command, MAX_RECORDS};
 
+#[cfg(test)]
+mod draw_tests;
 #[cfg(test)]
 mod tests;

@@ -13,7 +13,7 @@ use pm_mapfile::map_bytes;
 use std::alloc::{AllocError, Global};
 
 // The text of the map, and the line of the residue.
-fn sample_text(alloc: Global, sample: &Sample) -> Result<Vec<u8>, AllocError>
+pub(crate) fn sample_text(alloc: Global, sample: &Sample) -> Result<Vec<u8>, AllocError>
     ensures { IfOk result (λ text. IsTextOfSample sample.now.map sample.now.residue text.items) }
 {
     let mut text = map_bytes(alloc, &sample.map)?;

@@ -7,29 +7,31 @@ use std::test::Fail;
 
 // The streams after a run, and its status.
 #[derive(Drop)]
-struct Run {
-    status: u8,
-    out: MemSink,
-    err: MemSink,
+pub(crate) struct Run {
+    pub status: u8,
+    pub out: MemSink,
+    pub err: MemSink,
 }
 
-// The calls that fail, and what a failing write of the output keeps.
+// The calls that fail, what a failing write of the output keeps, and how many bytes the output takes.
 #[derive(Clone, Copy)]
-struct Faults {
-    read: u32,
-    out: u32,
-    part: u32,
-    err: u32,
+pub(crate) struct Faults {
+    pub read: u32,
+    pub out: u32,
+    pub part: u32,
+    pub err: u32,
+    pub room: u32,
 }
 
-const NONE: Faults = Faults {
+pub(crate) const NONE: Faults = Faults {
     read: 0,
     out: 0,
     part: 0,
     err: 0,
+    room: 1000,
 };
 
-fn run_on(
+pub(crate) fn run_on(
     rt: &impl Abort,
     alloc: Global,
     line: &str,
@@ -46,7 +48,7 @@ fn run_on(
         4,
         vec![in alloc; faults.read]?,
     );
-    let mut out = MemSink::new(alloc, 1000, faults.part, vec![in alloc; faults.out]?)?;
+    let mut out = MemSink::new(alloc, faults.room, faults.part, vec![in alloc; faults.out]?)?;
     let mut err = MemSink::new(alloc, 1000, 0, vec![in alloc; faults.err]?)?;
     let status = run(alloc, &words, &mut input, &mut out, &mut err);
     Ok(Run { status, out, err })

@@ -1,5 +1,6 @@
-ghost use Rattle.std.specs.Prelude.{◌≡◌, ◌≢◌, ◌↔◌, ℕ, decimal, string_bytes, IsTrue, MatchOption, MatchResult};
+ghost use Rattle.std.specs.Prelude.{◌≡◌, ◌≢◌, ◌<◌, ◌≤◌, ◌↔◌, ℕ, decimal, string_bytes, IsTrue, MatchOption, MatchResult};
 ghost use Rattle.pm_euler.specs.Quartic.{IsQuarticSize};
+ghost use Rattle.pm_cli.specs.declared.words.TheConstants.{MAX_RECORDS};
 
 use pm_euler::{MapClass, Quartic};
 use pm_text::number;
@@ -30,6 +31,25 @@ fn quartic_size(word: &String) -> Option<u32>
     }
 }
 
+/// The greatest number of records that one command draws.
+pub const MAX_RECORDS: u64 = 1000;
+
+// The count of records that the word spells, where there is one.
+fn record_count(word: &String) -> Option<u64>
+    ensures { MatchOption result
+        ((count : ℕ) → 0 < count → count ≤ MAX_RECORDS → string_bytes word.now ≢ decimal count)
+        (λ count. (0 < count) × (count ≤ MAX_RECORDS) × (string_bytes word.now ≡ decimal count)) }
+{
+    let Some(count) = number(word.as_bytes()) else {
+        return None;
+    };
+    if 0 < count && count <= MAX_RECORDS {
+        Some(count)
+    } else {
+        None
+    }
+}
+
 /// A command.
 #[derive(Clone, Copy, Debug, PartialEq, Eq)]
 pub enum Command {
@@ -43,11 +63,13 @@ pub enum Command {
     CheckQuartic,
     /// `sample quartic SIZE`: answers the quartic map and the residue of a list of choices.
     SampleQuartic { size: u32 },
+    /// `draw quartic SIZE SEED COUNT`: draws lists of choices and answers each with its quartic map and residue.
+    DrawQuartic { size: u32, seed: u64, count: u64 },
 }
 
 impl Command {
-    ghost use Rattle.std.specs.Prelude.{◌≡◌, [], ◌∷◌, take, codes, map, string_bytes};
-    ghost use Rattle.pm_cli.specs.Commands.{Spells, IsNoCommand};
+    ghost use Rattle.std.specs.Prelude.{◌≡◌, [], ◌∷◌, length, take, codes, map, string_bytes};
+    ghost use Rattle.pm_cli.specs.Commands.{Spells, IsNoCommand, HasNumbers, HasNoNumbers};
 
     // The command that the words spell, or how many of them begin one.
     pub(crate) fn of_words(words: &[String]) -> Result<Command, u32>
@@ -67,6 +89,9 @@ impl Command {
         }
         if is_word(&words[0], "sample") {
             return Command::of_sample(words);
+        }
+        if is_word(&words[0], "draw") {
+            return Command::of_draw(words);
         }
         Err(0)
     }
@@ -138,6 +163,51 @@ impl Command {
             Ok(Command::SampleQuartic { size })
         } else {
             Err(3)
+        }
+    }
+
+    // The same of words that begin with `draw`.
+    fn of_draw(words: &[String]) -> Result<Command, u32>
+        requires { take 1 (map string_bytes words.now) ≡ codes "draw" ∷ [] }
+        ensures { MatchResult result (Spells (map string_bytes words.now)) (IsNoCommand (map string_bytes words.now)) }
+    {
+        if words.len() == 1 || !is_word(&words[1], "quartic") {
+            return Err(1);
+        }
+        if words.len() == 2 {
+            return Err(2);
+        }
+        let Some(size) = quartic_size(&words[2]) else {
+            return Err(2);
+        };
+        match Command::draw_numbers(words) {
+            Ok((seed, count)) => Ok(Command::DrawQuartic { size, seed, count }),
+            Err(matched) => Err(matched),
+        }
+    }
+
+    // The seed and the count that stand behind three words and end them, or how many words begin such words.
+    fn draw_numbers(words: &[String]) -> Result<(u64, u64), u32>
+        requires { 3 ≤ length words.now }
+        ensures { MatchResult result (λ numbers. HasNumbers (map string_bytes words.now) numbers.0 numbers.1)
+            (HasNoNumbers (map string_bytes words.now)) }
+    {
+        if words.len() == 3 {
+            return Err(3);
+        }
+        let Some(seed) = number(words[3].as_bytes()) else {
+            return Err(3);
+        };
+        if words.len() == 4 {
+            return Err(4);
+        }
+        let Some(count) = record_count(&words[4]) else {
+            return Err(4);
+        };
+        if words.len() == 5 {
+            Ok((seed, count))
+        } else {
+            Err(5)
         }
     }
 }

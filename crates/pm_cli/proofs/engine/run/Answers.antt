@@ -1,6 +1,6 @@
 use Rattle.std.proofs.Common.{◌∙◌}
 use Rattle.std.specs.Prelude.{Err}
-use Rattle.pm_cli.proofs.EndingLemmas.{ends_told, told_no_write}
+use Rattle.pm_cli.proofs.EndingLemmas.{ends_told, told_no_write, told_memory}
 use Rattle.pm_cli.proofs.engine.run.Goals as goal
 
 pub returns-in-Err-clause-ends : goal.returns-in-Err-clause-ends
@@ -8,5 +8,6 @@ returns-in-Err-clause-ends g c =
     (Err c.tell.result, c.status.ensures, ends_told _ _ _ _ c.in-Err.stop c.tell.result c.in-Err.ensures.ends c.tell.ensures.same, c.tell.ensures.told)
 
 pub returns-in-Err-clause-nothing_added : goal.returns-in-Err-clause-nothing_added
-returns-in-Err-clause-nothing_added g c _ no_write =
+returns-in-Err-clause-nothing_added g c _ no_write in_one =
     c.in-Err.ensures.nothing_added (told_no_write c.in-Err.stop c.tell.result c.tell.ensures.same (λ e. no_write (c.status.ensures ∙ e)))
+    (λ memory. in_one (c.status.ensures ∙ told_memory c.in-Err.stop c.tell.result c.tell.ensures.same memory))

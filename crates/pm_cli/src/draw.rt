@@ -1,0 +1,73 @@
+ghost use Rattle.std.specs.Prelude.{◌≡◌, IfOk, OnOk};
+ghost use Rattle.pm_draw.specs.Drawn.{words_of, drawn};
+ghost use Rattle.pm_cli.specs.Drawing.{IsRecord, IsDrawing, HasFirstRecords};
+ghost use Rattle.pm_cli.specs.Ending.{IsWritingRecords};
+
+use crate::refusal::Stop;
+use crate::sample::sample_text;
+use pm_draw::{draw_list, rng_of};
+use pm_euler::{MapClass, SampleRefusal};
+use pm_io::{Failed, Sink};
+use pm_lists::{Bounds, put_list};
+use rand_pcg::Pcg64;
+use std::alloc::{AllocError, Global};
+
+// Draws a list of choices for these bounds and makes its record: the line of the choices, and the text of the map and
+// the residue that they give.
+fn draw_record<C: MapClass>(
+    alloc: Global,
+    size: &C::Size,
+    bounds: &Bounds,
+    rng: &mut Pcg64,
+) -> Result<Vec<u8>, AllocError>
+    requires size { C.is_size size.now }
+    requires bounds { bounds.now ≡ C.choice_limits size.now }
+    ensures record { IfOk result (λ text. IsRecord (C.samples size.now) (drawn bounds.now (words_of rng.old)).0 text.items) }
+    ensures left { OnOk result (words_of rng.new ≡ (drawn bounds.now (words_of rng.old)).1) }
+{
+    let choices = draw_list(alloc, rng, bounds)?;
+    let sample = match C::sample(alloc, size, choices.values()) {
+        Ok(sample) => sample,
+        Err(SampleRefusal::Memory) => return Err(AllocError),
+        Err(SampleRefusal::List(_)) => unreachable!(),
+    };
+    let mut text = Vec::new(alloc);
+    put_list(alloc, b"choices", &choices, &mut text)?;
+    text.extend_from_slice(&sample_text(alloc, &sample)?)?;
+    Ok(text)
+}
+
+// `draw CLASS SIZE SEED COUNT`: writes so many records, each made whole before its one write, and hands them on. One
+// generator, that of the seed, draws all the lists.
+pub(crate) fn draw<C: MapClass, O: Sink>(
+    alloc: Global,
+    size: &C::Size,
+    seed: u64,
+    count: u64,
+    out: &mut O,
+) -> Result<(), Stop>
+    requires { C.is_size size.now }
+    ensures { IsWritingRecords (IsDrawing (C.choice_limits size.now) (C.samples size.now) seed count)
+        (HasFirstRecords (C.choice_limits size.now) (C.samples size.now) seed count)
+        (O.holds out.old) (O.holds out.new) (O.faults out.old) (O.faults out.new) result }
+{
+    let bounds = match C::choice_bounds(alloc, size) {
+        Ok(bounds) => bounds,
+        Err(_) => return Err(Stop::Memory),
+    };
+    let mut rng = rng_of(seed);
+    'records: for _place in 0..count {
+        let record = match draw_record::<C>(alloc, size, &bounds, &mut rng) {
+            Ok(record) => record,
+            Err(_) => return Err(Stop::Memory),
+        };
+        match out.write(&record) {
+            Ok(()) => {}
+            Err(Failed) => return Err(Stop::Write),
+        }
+    }
+    match out.flush() {
+        Ok(()) => Ok(()),
+        Err(Failed) => Err(Stop::Write),
+    }
+}
