@@ -5,8 +5,7 @@ use Rattle.std.specs.declared.alloc.Global.{Global}
 use Rattle.std.proofs.Math.Seq.{take-length}
 use Rattle.pm_io.specs.Bytes.{added}
 use Rattle.pm_io.specs.Faults.{FaultsRose}
-use Rattle.pm_euler.specs.Bounds.{quartic_choices}
-use Rattle.pm_euler.specs.Quartic.{SamplesQuartic}
+use Rattle.pm_map.specs.Rotation.{RotationSystem}
 use Rattle.pm_cli.specs.declared.words.Command.{Command}
 use Rattle.pm_cli.specs.declared.words.Command.TheVariants.{CloseEulerian, Canon, CheckGeneral, CheckQuartic, SampleQuartic, DrawQuartic}
 use Rattle.pm_cli.specs.declared.refusal.Limit.TheVariants.{Bytes, Letters, Edges}
@@ -18,9 +17,9 @@ use Rattle.pm_cli.specs.Commands.{Spells, reads, IsNoCommand}
 use Rattle.pm_cli.specs.Answer.{Answers, no_command, too_long, of_file, of_words, CommandAnswers}
 use Rattle.pm_cli.specs.Answering.{IsAnswerOf}
 use Rattle.pm_cli.specs.Lines.{status_of_stop}
-use Rattle.pm_cli.specs.Beginning.{of_answer, of_records}
+use Rattle.pm_cli.specs.Beginning.{IsFirstRecords, of_answer, of_records}
 use Rattle.pm_cli.specs.Drawing.{IsDrawing, HasFirstRecords}
-use Rattle.pm_cli.specs.Ending.{ReadInput, ReadNothing, WriteWhole, IsWritingRecords, IsInput, Ends, EndsBy, HasRead, IsReading, IsWriting, IsToldFor}
+use Rattle.pm_cli.specs.Ending.{ReadNothing, IsWritingRecords, IsInput, Ends, EndsBy, HasRead, IsReading, IsWriting, IsToldFor}
 
 -- a flush that failed after a whole write: the whole text is the front that was added
 pub flush_failed : (text : List ℕ) (old mid new : Option (List ℕ)) (faults_old faults_mid faults_new : ℕ)
@@ -131,37 +130,27 @@ told_no_write Read told is no_write e = cc
 told_no_write Write told is no_write e = no_write (ap status_of_stop is)
 told_no_write Memory told is no_write e = cc
 
--- records that were drawn and written, or not all
-pub ends_drawing : (words : List (List ℕ)) (size seed count : ℕ) (left old new : Option (List ℕ)) (f g : ℕ) (end : Result (Unit {0}) Stop)
-    → Spells words (DrawQuartic size seed count)
-    → IsWritingRecords (IsDrawing (quartic_choices size) (SamplesQuartic size) seed count) (HasFirstRecords (quartic_choices size) (SamplesQuartic size) seed count) old new f g end
-    → Ends words left old new end
-ends_drawing words size seed count left old new f g (Ok done) spells drew bytes input = record {
+-- records that were drawn and written, or not all, by a command whose answer they are
+pub ends_drawing : (words : List (List ℕ)) (command : Command) (bounds : List ℕ) (samples : List ℕ → RotationSystem → List ℕ → Type 0) (seed count : ℕ)
+    (left old new : Option (List ℕ)) (f g : ℕ) (end : Result (Unit {0}) Stop) → Spells words command → reads command ≡ false
+    → ((bytes text : List ℕ) → IsDrawing bounds samples seed count text → CommandAnswers command bytes (Ok text))
+    → ((text : List ℕ) → HasFirstRecords bounds samples seed count text → IsFirstRecords command text)
+    → IsWritingRecords (IsDrawing bounds samples seed count) (HasFirstRecords bounds samples seed count) old new f g end → Ends words left old new end
+ends_drawing words command bounds samples seed count left old new f g (Ok done) spells unread all first drew bytes input = record {
   text = drew.0.text;
-  answers = of_words (DrawQuartic size seed count) spells refl (Ok drew.0.text) drew.0.holds;
+  answers = of_words command spells unread (Ok drew.0.text) (all bytes drew.0.text drew.0.holds);
   written = drew.0.written;
 }
-ends_drawing words size seed count left old new f g (Err Write) spells drew bytes input = record {
+ends_drawing words command bounds samples seed count left old new f g (Err Write) spells unread all first drew bytes input = record {
   text = drew.0.text;
-  begins = of_records (DrawQuartic size seed count) spells drew.0.holds;
+  begins = of_records command spells (first drew.0.text drew.0.holds);
   front = drew.0.front;
   written = drew.0.written;
 }
-ends_drawing words size seed count left old new f g (Err Memory) spells drew bytes input =
-    inr (record { command = DrawQuartic size seed count; spells = spells; text = drew.text; records = drew.holds; written = drew.written })
-ends_drawing words size seed count left old new f g (Err Read) spells drew bytes input = absurd drew
-ends_drawing words size seed count left old new f g (Err (Refused refusal)) spells drew bytes input = absurd drew
-
--- such words aren't of a command that writes in one piece, or reads
-pub draws_in_records : (words : List (List ℕ)) (size seed count : ℕ) → Spells words (DrawQuartic size seed count) → WriteWhole words → ⊥
-draws_in_records words size seed count spells in_one = true_false (in_one (DrawQuartic size seed count) spells) where
-  true_false : true ≡ false → ⊥
-  true_false e = cc
-
-pub draws_unread : (words : List (List ℕ)) (size seed count : ℕ) → Spells words (DrawQuartic size seed count) → ReadInput words → ⊥
-draws_unread words size seed count spells read = false_true (read (DrawQuartic size seed count) spells) where
-  false_true : false ≡ true → ⊥
-  false_true e = cc
+ends_drawing words command bounds samples seed count left old new f g (Err Memory) spells unread all first drew bytes input =
+    inr (record { command = command; spells = spells; text = drew.text; records = first drew.text drew.holds; written = drew.written })
+ends_drawing words command bounds samples seed count left old new f g (Err Read) spells unread all first drew bytes input = absurd drew
+ends_drawing words command bounds samples seed count left old new f g (Err (Refused refusal)) spells unread all first drew bytes input = absurd drew
 
 -- want of memory is told as such
 pub told_memory : (stop told : Stop) → IsToldFor stop told → stop ≡ Memory → status_of_stop told ≡ 9

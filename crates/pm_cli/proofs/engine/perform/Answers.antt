@@ -1,6 +1,9 @@
-use Rattle.std.proofs.Common.{subst, map}
+use Rattle.std.proofs.Common.{refl, subst, map}
 use Rattle.std.specs.Prelude.{string_bytes}
+use Rattle.pm_euler.specs.Bounds.{quartic_choices}
+use Rattle.pm_euler.specs.Quartic.{SamplesQuartic}
 use Rattle.pm_cli.specs.declared.words.Command.{Command}
+use Rattle.pm_cli.specs.declared.words.Command.TheVariants.{DrawQuartic}
 use Rattle.pm_cli.specs.Commands.{Spells}
 use Rattle.pm_cli.proofs.EndingLemmas.{reads_input, ends_drawing, ends_unread, ends_reading, ends_answering, ends_writing}
 use Rattle.pm_cli.proofs.engine.perform.Goals as goal
@@ -29,6 +32,8 @@ returns-clause-ends g c =
 
 pub returns-in-DrawQuartic-clause-ends : goal.returns-in-DrawQuartic-clause-ends
 returns-in-DrawQuartic-clause-ends g c =
-    ends_drawing _ c.in-DrawQuartic.size c.in-DrawQuartic.seed c.in-DrawQuartic.count (g.S.Source.left c.args.input.now) (g.O.Sink.holds c.args.out.now)
+    ends_drawing _ (DrawQuartic c.in-DrawQuartic.size c.in-DrawQuartic.seed c.in-DrawQuartic.count) (quartic_choices c.in-DrawQuartic.size)
+    (SamplesQuartic c.in-DrawQuartic.size) c.in-DrawQuartic.seed c.in-DrawQuartic.count (g.S.Source.left c.args.input.now) (g.O.Sink.holds c.args.out.now)
     (g.O.Sink.holds c.draw.new.out) (g.O.Sink.faults c.args.out.now) (g.O.Sink.faults c.draw.new.out) c.draw.result
-    (subst (λ (command : Command). Spells (map string_bytes c.args.words.now) command) c.in-DrawQuartic.is c.in-Ok.ensures) c.draw.ensures
+    (subst (λ (command : Command). Spells (map string_bytes c.args.words.now) command) c.in-DrawQuartic.is c.in-Ok.ensures) refl
+    (λ bytes text is. is) (λ text is. is) c.draw.ensures
