@@ -41,21 +41,6 @@ fn loops_of_parts(rt: HostRuntime) -> Result<(), Fail> {
     Ok(())
 }
 
-// Two loops at one vertex, on the sphere and crossing on a torus.
-#[test]
-fn loops_of_rotation(rt: HostRuntime) -> Result<(), Fail> {
-    let sigma = Vec::from_slice(rt.alloc(), &[1, 2, 3, 0])?;
-    let answer = RootedMap::from_rotation(rt.alloc(), sigma, 2, 1);
-    assert!(rt; answer.is_ok());
-    let Ok(loops) = answer else { return Ok(()) };
-    assert_eq!(rt; loops.root(), 2);
-    assert_eq!(rt; loops.sigma(), [1, 2, 3, 0].as_slice());
-    let sigma = Vec::from_slice(rt.alloc(), &[2, 3, 1, 0])?;
-    let answer = RootedMap::from_rotation(rt.alloc(), sigma, 0, 1);
-    assert_eq!(rt; answer.err(), Some(MapRefusal::Genus { euler: 0 }));
-    Ok(())
-}
-
 #[test]
 fn no_dart(rt: HostRuntime) -> Result<(), Fail> {
     let answer = RootedMap::from_parts(rt.alloc(), Vec::new(rt.alloc()), 0);
