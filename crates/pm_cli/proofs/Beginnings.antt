@@ -7,13 +7,15 @@ use Rattle.pm_euler.specs.Quartic.{SamplesQuartic}
 use Rattle.pm_euler.proofs.OneSample.{one_quartic_sample}
 use Rattle.pm_draw.specs.Drawn.{generator_of, words_of}
 use Rattle.pm_cli.specs.declared.words.Command.{Command}
-use Rattle.pm_cli.specs.declared.words.Command.TheVariants.{CloseEulerian, Canon, CheckGeneral, CheckQuartic, SampleQuartic, DrawQuartic}
+use Rattle.pm_cli.specs.declared.words.Command.TheVariants.{CloseEulerian, Canon, CheckGeneral, CheckQuartic, CheckEulerian, SampleQuartic, SampleEulerian, DrawQuartic}
 use Rattle.pm_cli.specs.declared.refusal.Refusal.{Refusal}
 use Rattle.pm_cli.specs.Commands.{IsCommand, Spells}
 use Rattle.pm_cli.specs.Answer.{Answers, no_command, too_long, of_file, of_words, CommandAnswers}
 use Rattle.pm_cli.specs.Beginning.{IsFirstRecords, of_answer, of_records}
 use Rattle.pm_cli.specs.Laws.{BeginningIsFront}
-use Rattle.pm_cli.proofs.OneAnswer.{one_command, one_sample_text, has_one_answer}
+use Rattle.pm_cli.proofs.OneAnswer.{has_one_answer}
+use Rattle.pm_cli.proofs.OneCommand.{one_command}
+use Rattle.pm_cli.proofs.OneSampling.{one_sample_text}
 use Rattle.pm_cli.proofs.Records.{fewer_in_front}
 
 -- what a command answers, whose words spell another one
@@ -42,7 +44,9 @@ records_in_front CloseEulerian is bytes begun text x y = absurd x
 records_in_front Canon is bytes begun text x y = absurd x
 records_in_front CheckGeneral is bytes begun text x y = absurd x
 records_in_front CheckQuartic is bytes begun text x y = absurd x
+records_in_front CheckEulerian is bytes begun text x y = absurd x
 records_in_front (SampleQuartic size) is bytes begun text x y = absurd x
+records_in_front (SampleEulerian profile) is bytes begun text x y = absurd x
 
 pub beginning_is_front : BeginningIsFront
 beginning_is_front words bytes begun text (of_answer a) answers =

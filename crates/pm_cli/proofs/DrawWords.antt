@@ -1,24 +1,12 @@
 -- Which words that begin with `draw` begin a command.
-use Rattle.std.proofs.Common.{◌≡◌, ℕ, suc, inl, inr, List, [], ◌∷◌, ◌++◌, length, take, refl, sym, ◌∙◌, ap, subst, arith}
+use Rattle.std.proofs.Common.{◌≡◌, ℕ, suc, List, [], ◌∷◌, ◌++◌, length, take, refl, sym, ◌∙◌, ap, subst, arith}
 use Rattle.std.specs.Prelude.{codes, decimal}
-use Rattle.std.proofs.lemmas.Bool.{cases_lt}
 use Rattle.pm_cli.specs.declared.words.Command.{Command}
-use Rattle.pm_cli.specs.declared.words.Command.TheVariants.{CloseEulerian, Canon, CheckGeneral, CheckQuartic, SampleQuartic, DrawQuartic}
+use Rattle.pm_cli.specs.declared.words.Command.TheVariants.{CloseEulerian, Canon, CheckGeneral, CheckQuartic, CheckEulerian, SampleQuartic, SampleEulerian, DrawQuartic}
 use Rattle.pm_euler.specs.Quartic.{IsQuarticSize}
-use Rattle.pm_cli.specs.Commands.{spelling, AreDrawNumbers, IsCommand, Spells, Begins, IsNoCommand, HasNumbers, HasNoNumbers}
-use Rattle.pm_cli.proofs.SampleWords.{front, one_is_a_size, some_words}
+use Rattle.pm_cli.specs.Commands.{spelling, AreDrawNumbers, IsCommand, Spells, IsNoCommand, HasNumbers, HasNoNumbers}
+use Rattle.pm_cli.proofs.CommandWords.{front, stops_at, one_is_a_size, some_words}
 use Rattle.pm_cli.proofs.NumberWords.{some_numbers}
-
--- words are no command, where a command begins with the first k of them and none with one more
-pub stops_at : (ws : List (List ℕ)) (k : ℕ) → Begins ws k → ((command : Command) → IsCommand command → take (suc k) ws ≡ take (suc k) (spelling command) → ⊥) → IsNoCommand ws k
-stops_at ws k begins none = record {
-  none = λ command s. none command s.is_command (ap (take (suc k)) s.same);
-  begins = begins;
-  greatest = λ j b. elim (cases_lt k j) [
-    | inr fine ↦ fine
-    | inl more ↦ absurd (none b.command b.is_command (front (suc k) j ws (spelling b.command) more b.same))
-  ];
-}
 
 -- the command that begins with `draw`
 data IsDraw (command : Command) : Type 0 where
@@ -29,7 +17,9 @@ drawing CloseEulerian is e = cc
 drawing Canon is e = cc
 drawing CheckGeneral is e = cc
 drawing CheckQuartic is e = cc
+drawing CheckEulerian is e = cc
 drawing (SampleQuartic size) is e = cc
+drawing (SampleEulerian profile) is e = cc
 drawing (DrawQuartic size seed count) is e = of_numbers size seed count refl is.0 is.1
 
 -- where no drawing begins with one word more, no command does

@@ -7,7 +7,7 @@ use Rattle.pm_io.specs.Bytes.{added}
 use Rattle.pm_io.specs.Faults.{FaultsRose}
 use Rattle.pm_map.specs.Rotation.{RotationSystem}
 use Rattle.pm_cli.specs.declared.words.Command.{Command}
-use Rattle.pm_cli.specs.declared.words.Command.TheVariants.{CloseEulerian, Canon, CheckGeneral, CheckQuartic, SampleQuartic, DrawQuartic}
+use Rattle.pm_cli.specs.declared.words.Command.TheVariants.{CloseEulerian, Canon, CheckGeneral, CheckQuartic, CheckEulerian, SampleQuartic, SampleEulerian, DrawQuartic}
 use Rattle.pm_cli.specs.declared.refusal.Limit.TheVariants.{Bytes, Letters, Edges}
 use Rattle.pm_cli.specs.declared.refusal.Refusal.{Refusal}
 use Rattle.pm_cli.specs.declared.refusal.Refusal.TheVariants.{Usage, Text, Limited, Map, Tree, Invalid}
@@ -34,7 +34,9 @@ reads_input CloseEulerian other = refl
 reads_input Canon other = refl
 reads_input CheckGeneral other = refl
 reads_input CheckQuartic other = refl
+reads_input CheckEulerian other = refl
 reads_input (SampleQuartic size) other = refl
+reads_input (SampleEulerian profile) other = refl
 reads_input (DrawQuartic size seed count) other = absurd (other size seed count refl)
 
 -- words of a command that reads are none of one that reads nothing

@@ -2,15 +2,16 @@
 use Rattle.std.specs.Prelude.{◌≡◌, ℕ, ◌<◌, ◌≤◌, true, false, List, length, Result, Err}
 use Rattle.pm_io.specs.declared.TheConstants.{MAX_BYTES}
 use Rattle.pm_cli.specs.declared.words.Command.{Command}
-use Rattle.pm_cli.specs.declared.words.Command.TheVariants.{CloseEulerian, Canon, CheckGeneral, CheckQuartic, SampleQuartic, DrawQuartic}
+use Rattle.pm_cli.specs.declared.words.Command.TheVariants.{CloseEulerian, Canon, CheckGeneral, CheckQuartic, CheckEulerian, SampleQuartic, SampleEulerian, DrawQuartic}
 use Rattle.pm_cli.specs.declared.refusal.Limit.TheVariants.{Bytes}
 use Rattle.pm_cli.specs.declared.refusal.Refusal.{Refusal}
 use Rattle.pm_cli.specs.declared.refusal.Refusal.TheVariants.{Usage, Limited}
-use Rattle.pm_euler.specs.Bounds.{quartic_choices}
+use Rattle.pm_euler.specs.Bounds.{quartic_choices, eulerian_choices}
 use Rattle.pm_euler.specs.Quartic.{SamplesQuartic}
+use Rattle.pm_euler.specs.Eulerian.{SamplesEulerian}
 use Rattle.pm_cli.specs.Commands.{Spells, reads, IsNoCommand}
 use Rattle.pm_cli.specs.Closing.{ClosesEulerian}
-use Rattle.pm_cli.specs.MapCommands.{Canonizes, ChecksGeneral, ChecksQuartic}
+use Rattle.pm_cli.specs.MapCommands.{Canonizes, ChecksGeneral, ChecksQuartic, ChecksEulerian}
 use Rattle.pm_cli.specs.Sampling.{Samples}
 use Rattle.pm_cli.specs.Drawing.{Draws}
 
@@ -20,7 +21,9 @@ CommandAnswers CloseEulerian bytes answer = ClosesEulerian bytes answer
 CommandAnswers Canon bytes answer = Canonizes bytes answer
 CommandAnswers CheckGeneral bytes answer = ChecksGeneral bytes answer
 CommandAnswers CheckQuartic bytes answer = ChecksQuartic bytes answer
+CommandAnswers CheckEulerian bytes answer = ChecksEulerian bytes answer
 CommandAnswers (SampleQuartic size) bytes answer = Samples (quartic_choices size) (SamplesQuartic size) bytes answer
+CommandAnswers (SampleEulerian profile) bytes answer = Samples (eulerian_choices profile) (SamplesEulerian profile) bytes answer
 CommandAnswers (DrawQuartic size seed count) bytes answer = Draws (quartic_choices size) (SamplesQuartic size) seed count answer
 
 -- the answer, by the first rule that applies

@@ -3,7 +3,7 @@ use Rattle.std.specs.Prelude.{ℕ, List, Ok}
 use Rattle.pm_euler.specs.Bounds.{quartic_choices}
 use Rattle.pm_euler.specs.Quartic.{SamplesQuartic}
 use Rattle.pm_cli.specs.declared.words.Command.{Command}
-use Rattle.pm_cli.specs.declared.words.Command.TheVariants.{CloseEulerian, Canon, CheckGeneral, CheckQuartic, SampleQuartic, DrawQuartic}
+use Rattle.pm_cli.specs.declared.words.Command.TheVariants.{CloseEulerian, Canon, CheckGeneral, CheckQuartic, CheckEulerian, SampleQuartic, SampleEulerian, DrawQuartic}
 use Rattle.pm_cli.specs.Commands.{Spells}
 use Rattle.pm_cli.specs.Drawing.{HasFirstRecords}
 use Rattle.pm_cli.specs.Answer.{Answers}
@@ -15,7 +15,9 @@ IsFirstRecords CloseEulerian text = ⊥
 IsFirstRecords Canon text = ⊥
 IsFirstRecords CheckGeneral text = ⊥
 IsFirstRecords CheckQuartic text = ⊥
+IsFirstRecords CheckEulerian text = ⊥
 IsFirstRecords (SampleQuartic size) text = ⊥
+IsFirstRecords (SampleEulerian profile) text = ⊥
 
 -- the text is the answer, or its first records where it is written record by record
 pub data BeginsAnswer (words : List (List ℕ)) (bytes text : List ℕ) : Type 0 where

@@ -1,9 +1,11 @@
 -- The commands, and the words that spell them.
 use Rattle.std.specs.Prelude.{◌≡◌, ℕ, suc, ◌<◌, ◌≤◌, ◌^◌, Bool, true, false, List, [], ◌∷◌, ◌++◌, length, take, codes, decimal, ⊤}
+use Rattle.pm_trees.specs.Pairs.{IsProfile}
 use Rattle.pm_euler.specs.Quartic.{IsQuarticSize}
 use Rattle.pm_cli.specs.declared.words.TheConstants.{MAX_RECORDS}
 use Rattle.pm_cli.specs.declared.words.Command.{Command}
-use Rattle.pm_cli.specs.declared.words.Command.TheVariants.{CloseEulerian, Canon, CheckGeneral, CheckQuartic, SampleQuartic, DrawQuartic}
+use Rattle.pm_cli.specs.declared.words.Command.TheVariants.{CloseEulerian, Canon, CheckGeneral, CheckQuartic, CheckEulerian, SampleQuartic, SampleEulerian, DrawQuartic}
+use Rattle.pm_cli.specs.ProfileWord.{profile_text}
 
 -- the words of a command
 abbrev pub spelling : Command → List (List ℕ)
@@ -11,7 +13,9 @@ spelling CloseEulerian = codes "close" ∷ codes "eulerian" ∷ []
 spelling Canon = codes "canon" ∷ []
 spelling CheckGeneral = codes "check" ∷ codes "general" ∷ []
 spelling CheckQuartic = codes "check" ∷ codes "quartic" ∷ []
+spelling CheckEulerian = codes "check" ∷ codes "eulerian" ∷ []
 spelling (SampleQuartic size) = codes "sample" ∷ codes "quartic" ∷ decimal size ∷ []
+spelling (SampleEulerian profile) = codes "sample" ∷ codes "eulerian" ∷ profile_text profile ∷ []
 spelling (DrawQuartic size seed count) = codes "draw" ∷ codes "quartic" ∷ decimal size ∷ decimal seed ∷ decimal count ∷ []
 
 -- a seed, and how many records are drawn from it
@@ -23,11 +27,13 @@ pub record AreDrawNumbers (seed count : ℕ) : Type 0 where
 -- a command with a size is one where the class has maps of that size
 abbrev pub IsCommand : Command → Type 0
 IsCommand (SampleQuartic size) = IsQuarticSize size
+IsCommand (SampleEulerian profile) = IsProfile profile
 IsCommand (DrawQuartic size seed count) = IsQuarticSize size × AreDrawNumbers seed count
 IsCommand CloseEulerian = ⊤
 IsCommand Canon = ⊤
 IsCommand CheckGeneral = ⊤
 IsCommand CheckQuartic = ⊤
+IsCommand CheckEulerian = ⊤
 
 -- the words are those of the command
 pub record Spells (words : List (List ℕ)) (command : Command) : Type 0 where
@@ -40,7 +46,9 @@ reads CloseEulerian = true
 reads Canon = true
 reads CheckGeneral = true
 reads CheckQuartic = true
+reads CheckEulerian = true
 reads (SampleQuartic size) = true
+reads (SampleEulerian profile) = true
 reads (DrawQuartic size seed count) = false
 
 -- whether the command writes its answer record by record, and not in one piece
@@ -49,7 +57,9 @@ writes_records CloseEulerian = false
 writes_records Canon = false
 writes_records CheckGeneral = false
 writes_records CheckQuartic = false
+writes_records CheckEulerian = false
 writes_records (SampleQuartic size) = false
+writes_records (SampleEulerian profile) = false
 writes_records (DrawQuartic size seed count) = true
 
 -- the first k words begin the words of some command

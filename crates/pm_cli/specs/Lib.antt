@@ -10,5 +10,6 @@ pub mod Laws
 pub mod Lines
 pub mod MapCommands
 pub mod MapReading
+pub mod ProfileWord
 pub mod Sampling
 pub mod TreeFile

@@ -1,19 +1,19 @@
--- What `canon`, `check general` and `check quartic` answer to a file.
-use Rattle.std.specs.Prelude.{◌≡◌, ℕ, ◌/◌, List, [], ◌∷◌, ◌++◌, length, Option, Result, Ok, Err, codes, decimal}
+-- What `canon` and the commands that check answer to a map file.
+use Rattle.std.specs.Prelude.{◌≡◌, ℕ, ◌/◌, List, [], ◌∷◌, ◌++◌, Option, Result, Ok, Err, codes, decimal}
 use Rattle.pm_limits.specs.declared.TheConstants.{MAX_EDGES}
 use Rattle.pm_text.specs.Broken.{newline, IsBrokenLine}
 use Rattle.pm_map.specs.declared.refusal.MapRefusal.{MapRefusal}
 use Rattle.pm_map.specs.declared.refusal.MapRefusal.TheVariants.{TooMany, NotPermutation, NotConnected, Genus}
-use Rattle.pm_map.specs.Structure.{Structure}
 use Rattle.pm_map.specs.Plane.{vertices, edges, faces}
 use Rattle.pm_map.specs.Rotation.{RotationSystem, structure_of}
-use Rattle.pm_map.specs.declared.admitted.Degrees.TheVariants.{Exactly}
-use Rattle.pm_map.specs.Classes.{IsQuartic}
-use Rattle.pm_map.specs.ClassRules.{IsLeastOther}
+use Rattle.pm_map.specs.declared.class_refusal.ClassRefusal.{ClassRefusal}
+use Rattle.pm_map.specs.declared.class_refusal.ClassRefusal.TheVariants as class
+use Rattle.pm_map.specs.ClassRules.{IsQuarticAnswer}
 use Rattle.pm_map.specs.Canonical.{IsCanonicalOf}
 use Rattle.pm_mapfile.specs.MapText.{IsMapText}
 use Rattle.pm_mapfile.specs.MapFile.{IsMapFile}
 use Rattle.pm_mapfile.specs.Answers.{AnswersFile}
+use Rattle.pm_euler.specs.Eulerian.{IsEulerianAnswer}
 use Rattle.pm_cli.specs.declared.refusal.Limit.TheVariants.{Bytes, Letters, Edges}
 use Rattle.pm_cli.specs.declared.refusal.MapRule.TheVariants.{Permutation, Connected, Euler, Empty, Vertex, Face, Loop, Double}
 use Rattle.pm_cli.specs.declared.refusal.Refusal.{Refusal}
@@ -73,25 +73,32 @@ Canonizes bytes answer = AnswersMapFile MAX_EDGES HasCanonicalText bytes answer
 abbrev pub ChecksGeneral : List ℕ → Result (List ℕ) Refusal → Type 0
 ChecksGeneral bytes answer = AnswersMapFile (MAX_EDGES / 2) IsCountsText bytes answer
 
--- a map of a class with some size, and the text of its counts
-pub record IsCountedIn (class : Structure → ℕ → Type 0) (map : RotationSystem) (text : List ℕ) : Type 0 where
-  pub size : ℕ
-  pub is_member : class (structure_of map) size
+-- a map that a class answers a size, and the text of its counts
+pub record IsCountedIn {Size : Type 0} (answers : RotationSystem → Result Size ClassRefusal → Type 0) (map : RotationSystem) (text : List ℕ) : Type 0 where
+  pub size : Size
+  pub is_member : answers map (Ok size)
   pub is_text : IsCountsText map text
 
--- `check quartic` answers the counts of a quartic map, or the first rule that the file or its map breaks
+-- the rule that a class answers, as the command tells it
+abbrev pub IsRuleOf : ClassRefusal → Refusal → Type 0
+IsRuleOf class.Memory refusal = ⊥
+IsRuleOf class.Empty refusal = refusal ≡ Map Empty
+IsRuleOf (class.TooMany edges) refusal = refusal ≡ Limited (Edges edges)
+IsRuleOf (class.Vertex dart) refusal = refusal ≡ Map (Vertex dart)
+IsRuleOf (class.Face dart) refusal = refusal ≡ Map (Face dart)
+IsRuleOf (class.Loop dart) refusal = refusal ≡ Map (Loop dart)
+IsRuleOf (class.Double dart) refusal = refusal ≡ Map (Double dart)
+
+-- the check of a class answers the counts of a map of the class, or the first rule that the file or its map breaks
+pub data ChecksClass {Size : Type 0} (answers : RotationSystem → Result Size ClassRefusal → Type 0) (bytes : List ℕ) : Result (List ℕ) Refusal → Type 0 where
+  counted : (text : List ℕ) → HasMap bytes MAX_EDGES (λ map. IsCountedIn answers map text) → ChecksClass answers bytes (Ok text)
+  no_map : (refusal : Refusal) → RefusesMapFile MAX_EDGES bytes refusal → ChecksClass answers bytes (Err refusal)
+  not_in_class : (refusal : Refusal) (why : ClassRefusal) → IsRuleOf why refusal → HasMap bytes MAX_EDGES (λ map. answers map (Err why))
+      → ChecksClass answers bytes (Err refusal)
+
+-- `check quartic` is the check of quartic maps, and `check eulerian` that of Eulerian ones
 abbrev pub ChecksQuartic : List ℕ → Result (List ℕ) Refusal → Type 0
-ChecksQuartic bytes (Ok text) = HasMap bytes MAX_EDGES (λ map. IsCountedIn IsQuartic map text)
-ChecksQuartic bytes (Err (Map Empty)) = HasMap bytes MAX_EDGES (λ map. length map.sigma ≡ 0)
-ChecksQuartic bytes (Err (Map (Vertex dart))) = HasMap bytes MAX_EDGES (λ map. IsLeastOther (structure_of map) (Exactly 4) dart)
-ChecksQuartic bytes (Err (Map (Face dart))) = ⊥
-ChecksQuartic bytes (Err (Map (Loop dart))) = ⊥
-ChecksQuartic bytes (Err (Map (Double dart))) = ⊥
-ChecksQuartic bytes (Err (Map (Permutation dart))) = RefusesMapFile MAX_EDGES bytes (Map (Permutation dart))
-ChecksQuartic bytes (Err (Map (Connected dart))) = RefusesMapFile MAX_EDGES bytes (Map (Connected dart))
-ChecksQuartic bytes (Err (Map (Euler number))) = RefusesMapFile MAX_EDGES bytes (Map (Euler number))
-ChecksQuartic bytes (Err (Text line)) = RefusesMapFile MAX_EDGES bytes (Text line)
-ChecksQuartic bytes (Err (Limited limit)) = RefusesMapFile MAX_EDGES bytes (Limited limit)
-ChecksQuartic bytes (Err (Tree rule)) = ⊥
-ChecksQuartic bytes (Err (Invalid list)) = ⊥
-ChecksQuartic bytes (Err (Usage matched)) = ⊥
+ChecksQuartic bytes answer = ChecksClass IsQuarticAnswer bytes answer
+
+abbrev pub ChecksEulerian : List ℕ → Result (List ℕ) Refusal → Type 0
+ChecksEulerian bytes answer = ChecksClass IsEulerianAnswer bytes answer

@@ -1,13 +1,13 @@
 ghost use Rattle.std.specs.Prelude.{◌≤◌, length, IfOk};
 ghost use Rattle.pm_io.specs.declared.TheConstants.{MAX_BYTES as limit};
-ghost use Rattle.pm_cli.specs.declared.words.Command.TheVariants.{CheckGeneral, CheckQuartic};
-ghost use Rattle.pm_cli.specs.Answering.{IsAnswerOf};
-ghost use Rattle.pm_cli.specs.MapCommands.{IsCountsText};
+ghost use Rattle.pm_cli.specs.declared.words.Command.TheVariants.{CheckGeneral};
+ghost use Rattle.pm_cli.specs.Answering.{IsAnswerBy, IsAnswerOf};
+ghost use Rattle.pm_cli.specs.MapCommands.{IsCountsText, ChecksClass};
 ghost use Rattle.pm_cli.specs.MapReading.{IsStopOfClass};
 
 use crate::map_file::map_of_file;
 use crate::refusal::{Limit, MapRule, Refusal, Stop};
-use pm_euler::{MapClass, Quartic};
+use pm_euler::MapClass;
 use pm_limits::MAX_EDGES;
 use pm_map::{ClassRefusal, RootedMap};
 use pm_text::put_number;
@@ -63,16 +63,18 @@ fn stop_of_class(refusal: ClassRefusal) -> Stop
     Stop::Refused(Refusal::Map(rule))
 }
 
-// `check quartic`: the same where each vertex has degree 4.
-pub(crate) fn check_quartic(alloc: Global, bytes: &[u8]) -> Result<Vec<u8>, Stop>
+// `check CLASS`: the same of a map of the class.
+pub(crate) fn check_class<C: MapClass>(alloc: Global, bytes: &[u8]) -> Result<Vec<u8>, Stop>
+where
+    C::Size: Drop,
     requires { length bytes.now ≤ limit }
-    ensures { IsAnswerOf CheckQuartic bytes.now result }
+    ensures { IsAnswerBy (ChecksClass C.answers bytes.now) result }
 {
     let map = match map_of_file(alloc, bytes, MAX_EDGES) {
         Ok(map) => map,
         Err(stop) => return Err(stop),
     };
-    match Quartic::size_of(alloc, &map) {
+    match C::size_of(alloc, &map) {
         Ok(_size) => {}
         Err(refusal) => return Err(stop_of_class(refusal)),
     }

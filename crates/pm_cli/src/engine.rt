@@ -60,9 +60,10 @@ fn perform<S: Source, O: Sink>(
     ensures write { IsErrOf result Stop.Write → FaultsRose (O.faults out.old) (O.faults out.new) }
     ensures calm_write { OnOk result (O.faults out.new ≡ O.faults out.old) }
 {
-    let command = match Command::of_words(words) {
-        Ok(command) => command,
-        Err(matched) => return Err(Stop::Refused(Refusal::Usage { matched })),
+    let command = match Command::of_words(alloc, words) {
+        Ok(Ok(command)) => command,
+        Ok(Err(matched)) => return Err(Stop::Refused(Refusal::Usage { matched })),
+        Err(_) => return Err(Stop::Memory),
     };
     if let Command::DrawQuartic { size, seed, count } = command {
         return draw::<Quartic, O>(alloc, &size, seed, count, out);
@@ -71,7 +72,7 @@ fn perform<S: Source, O: Sink>(
         Ok(bytes) => bytes,
         Err(stop) => return Err(stop),
     };
-    let text = match answer(alloc, command, &bytes) {
+    let text = match answer(alloc, &command, &bytes) {
         Ok(text) => text,
         Err(stop) => return Err(stop),
     };

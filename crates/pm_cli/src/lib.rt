@@ -10,6 +10,7 @@ mod draw;
 mod engine;
 mod laws;
 mod map_file;
+mod profile_word;
 mod refusal;
 mod sample;
 mod tree_file;

@@ -1,13 +1,11 @@
 ghost use Rattle.std.specs.Prelude.{◌≤◌, length, IfOk};
 ghost use Rattle.pm_io.specs.declared.TheConstants.{MAX_BYTES as limit};
-ghost use Rattle.pm_euler.specs.Quartic.{IsQuarticSize};
-ghost use Rattle.pm_cli.specs.declared.words.Command.TheVariants.{SampleQuartic};
-ghost use Rattle.pm_cli.specs.Answering.{IsAnswerOf};
-ghost use Rattle.pm_cli.specs.Sampling.{IsTextOfSample};
+ghost use Rattle.pm_cli.specs.Answering.{IsAnswerBy};
+ghost use Rattle.pm_cli.specs.Sampling.{IsTextOfSample, Samples};
 
 use crate::choices_file::read_choices;
 use crate::refusal::{Refusal, Stop};
-use pm_euler::{MapClass, Quartic, Sample, SampleRefusal};
+use pm_euler::{MapClass, Sample, SampleRefusal};
 use pm_lists::put_list;
 use pm_mapfile::map_bytes;
 use std::alloc::{AllocError, Global};
@@ -21,17 +19,21 @@ pub(crate) fn sample_text(alloc: Global, sample: &Sample) -> Result<Vec<u8>, All
     Ok(text)
 }
 
-// `sample quartic SIZE`: the text of the map and the residue that the choices in the file give.
-pub(crate) fn sample_quartic(alloc: Global, size: u32, bytes: &[u8]) -> Result<Vec<u8>, Stop>
+// `sample CLASS SIZE`: the text of the map and the residue that the choices in the file give.
+pub(crate) fn sample<C: MapClass>(
+    alloc: Global,
+    size: &C::Size,
+    bytes: &[u8],
+) -> Result<Vec<u8>, Stop>
     requires bytes { length bytes.now ≤ limit }
-    requires size { IsQuarticSize size }
-    ensures { IsAnswerOf (SampleQuartic size) bytes.now result }
+    requires size { C.is_size size.now }
+    ensures { IsAnswerBy (Samples (C.choice_limits size.now) (C.samples size.now) bytes.now) result }
 {
     let choices = match read_choices(alloc, bytes) {
         Ok(choices) => choices,
         Err(stop) => return Err(stop),
     };
-    let sample = match Quartic::sample(alloc, &size, choices.values()) {
+    let sample = match C::sample(alloc, size, choices.values()) {
         Ok(sample) => sample,
         Err(SampleRefusal::Memory) => return Err(Stop::Memory),
         Err(SampleRefusal::List(refusal)) => {

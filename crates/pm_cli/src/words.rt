@@ -2,8 +2,11 @@ ghost use Rattle.std.specs.Prelude.{◌≡◌, ◌≢◌, ◌<◌, ◌≤◌, �
 ghost use Rattle.pm_euler.specs.Quartic.{IsQuarticSize};
 ghost use Rattle.pm_cli.specs.declared.words.TheConstants.{MAX_RECORDS};
 
+use crate::profile_word::read_profile;
 use pm_euler::{MapClass, Quartic};
 use pm_text::number;
+use pm_trees::Profile;
+use std::alloc::{AllocError, Global};
 
 // Whether the word is this text.
 fn is_word(word: &String, text: &str) -> bool
@@ -51,7 +54,7 @@ fn record_count(word: &String) -> Option<u64>
 }
 
 /// A command.
-#[derive(Clone, Copy, Debug, PartialEq, Eq)]
+#[derive(Drop)]
 pub enum Command {
     /// `close eulerian`: closes a blossoming tree.
     CloseEulerian,
@@ -61,42 +64,63 @@ pub enum Command {
     CheckGeneral,
     /// `check quartic`: the same of a map whose vertices have degree 4.
     CheckQuartic,
+    /// `check eulerian`: the same of a map whose vertices have even degrees.
+    CheckEulerian,
     /// `sample quartic SIZE`: answers the quartic map and the residue of a list of choices.
     SampleQuartic { size: u32 },
+    /// `sample eulerian SIZE`: the same of a map whose vertices have the degrees of the profile.
+    SampleEulerian { profile: Profile },
     /// `draw quartic SIZE SEED COUNT`: draws lists of choices and answers each with its quartic map and residue.
     DrawQuartic { size: u32, seed: u64, count: u64 },
 }
 
 impl Command {
-    ghost use Rattle.std.specs.Prelude.{◌≡◌, [], ◌∷◌, length, take, codes, map, string_bytes};
-    ghost use Rattle.pm_cli.specs.Commands.{Spells, IsNoCommand, HasNumbers, HasNoNumbers};
+    ghost use Rattle.std.specs.Prelude.{◌≡◌, [], ◌∷◌, length, take, codes, map, string_bytes, IfOk};
+    ghost use Rattle.pm_cli.specs.Commands.{spelling, IsCommand, Spells, IsNoCommand, HasNumbers, HasNoNumbers};
 
     // The command that the words spell, or how many of them begin one.
-    pub(crate) fn of_words(words: &[String]) -> Result<Command, u32>
-        ensures { MatchResult result (Spells (map string_bytes words.now)) (IsNoCommand (map string_bytes words.now)) }
+    pub(crate) fn of_words(
+        alloc: Global,
+        words: &[String],
+    ) -> Result<Result<Command, u32>, AllocError>
+        ensures { IfOk result (λ found. MatchResult found (Spells (map string_bytes words.now)) (IsNoCommand (map string_bytes words.now))) }
     {
         if words.is_empty() {
-            return Err(0);
+            return Ok(Err(0));
         }
         if is_word(&words[0], "close") {
-            return Command::of_close(words);
+            return Ok(Command::of_close(words));
         }
         if is_word(&words[0], "canon") {
-            return Command::of_canon(words);
+            return Ok(Command::of_canon(words));
         }
         if is_word(&words[0], "check") {
-            return Command::of_check(words);
+            return Ok(Command::of_check(words));
         }
         if is_word(&words[0], "sample") {
-            return Command::of_sample(words);
+            return Command::of_sample(alloc, words);
         }
         if is_word(&words[0], "draw") {
-            return Command::of_draw(words);
+            return Ok(Command::of_draw(words));
         }
-        Err(0)
+        Ok(Err(0))
     }
 
-    // The same of words that begin with `close`.
+    // The command, which the first words spell, where they are all words, or that so many begin one.
+    fn unless_more(self, words: &[String], count: u32) -> Result<Command, u32>
+        requires command { IsCommand self }
+        requires count { length (spelling self) ≡ count }
+        requires spelled { take count (map string_bytes words.now) ≡ spelling self }
+        ensures { MatchResult result (Spells (map string_bytes words.now)) (IsNoCommand (map string_bytes words.now)) }
+    {
+        if words.len() > count as usize {
+            Err(count)
+        } else {
+            Ok(self)
+        }
+    }
+
+    // The command that words spell which begin with `close`, or how many of them begin one.
     fn of_close(words: &[String]) -> Result<Command, u32>
         requires { take 1 (map string_bytes words.now) ≡ codes "close" ∷ [] }
         ensures { MatchResult result (Spells (map string_bytes words.now)) (IsNoCommand (map string_bytes words.now)) }
@@ -104,11 +128,7 @@ impl Command {
         if words.len() == 1 || !is_word(&words[1], "eulerian") {
             return Err(1);
         }
-        if words.len() == 2 {
-            Ok(Command::CloseEulerian)
-        } else {
-            Err(2)
-        }
+        Command::CloseEulerian.unless_more(words, 2)
     }
 
     // The same of words that begin with `canon`.
@@ -116,11 +136,7 @@ impl Command {
         requires { take 1 (map string_bytes words.now) ≡ codes "canon" ∷ [] }
         ensures { MatchResult result (Spells (map string_bytes words.now)) (IsNoCommand (map string_bytes words.now)) }
     {
-        if words.len() == 1 {
-            Ok(Command::Canon)
-        } else {
-            Err(1)
-        }
+        Command::Canon.unless_more(words, 1)
     }
 
     // The same of words that begin with `check`.
@@ -131,39 +147,64 @@ impl Command {
         if words.len() == 1 {
             return Err(1);
         }
-        let command = if is_word(&words[1], "general") {
-            Command::CheckGeneral
-        } else if is_word(&words[1], "quartic") {
-            Command::CheckQuartic
-        } else {
-            return Err(1);
-        };
-        if words.len() == 2 {
-            Ok(command)
-        } else {
-            Err(2)
+        if is_word(&words[1], "general") {
+            return Command::CheckGeneral.unless_more(words, 2);
         }
+        if is_word(&words[1], "quartic") {
+            return Command::CheckQuartic.unless_more(words, 2);
+        }
+        if is_word(&words[1], "eulerian") {
+            return Command::CheckEulerian.unless_more(words, 2);
+        }
+        Err(1)
     }
 
     // The same of words that begin with `sample`.
-    fn of_sample(words: &[String]) -> Result<Command, u32>
+    fn of_sample(alloc: Global, words: &[String]) -> Result<Result<Command, u32>, AllocError>
         requires { take 1 (map string_bytes words.now) ≡ codes "sample" ∷ [] }
+        ensures { IfOk result (λ found. MatchResult found (Spells (map string_bytes words.now)) (IsNoCommand (map string_bytes words.now))) }
+    {
+        if words.len() == 1 {
+            return Ok(Err(1));
+        }
+        if is_word(&words[1], "quartic") {
+            return Ok(Command::of_sample_quartic(words));
+        }
+        if is_word(&words[1], "eulerian") {
+            return Command::of_sample_eulerian(alloc, words);
+        }
+        Ok(Err(1))
+    }
+
+    // The same of words that begin with `sample quartic`.
+    fn of_sample_quartic(words: &[String]) -> Result<Command, u32>
+        requires { take 2 (map string_bytes words.now) ≡ codes "sample" ∷ codes "quartic" ∷ [] }
         ensures { MatchResult result (Spells (map string_bytes words.now)) (IsNoCommand (map string_bytes words.now)) }
     {
-        if words.len() == 1 || !is_word(&words[1], "quartic") {
-            return Err(1);
-        }
         if words.len() == 2 {
             return Err(2);
         }
         let Some(size) = quartic_size(&words[2]) else {
             return Err(2);
         };
-        if words.len() == 3 {
-            Ok(Command::SampleQuartic { size })
-        } else {
-            Err(3)
+        Command::SampleQuartic { size }.unless_more(words, 3)
+    }
+
+    // The same of words that begin with `sample eulerian`.
+    fn of_sample_eulerian(
+        alloc: Global,
+        words: &[String],
+    ) -> Result<Result<Command, u32>, AllocError>
+        requires { take 2 (map string_bytes words.now) ≡ codes "sample" ∷ codes "eulerian" ∷ [] }
+        ensures { IfOk result (λ found. MatchResult found (Spells (map string_bytes words.now)) (IsNoCommand (map string_bytes words.now))) }
+    {
+        if words.len() == 2 {
+            return Ok(Err(2));
         }
+        let Some(profile) = read_profile(alloc, words[2].as_str())? else {
+            return Ok(Err(2));
+        };
+        Ok(Command::SampleEulerian { profile }.unless_more(words, 3))
     }
 
     // The same of words that begin with `draw`.

@@ -8,26 +8,26 @@ use Rattle.pm_cli.specs.Commands.{Spells}
 use Rattle.pm_cli.proofs.EndingLemmas.{reads_input, ends_drawing, ends_unread, ends_reading, ends_answering, ends_writing}
 use Rattle.pm_cli.proofs.engine.perform.Goals as goal
 
-pub returns-in-Err-clause-ends : goal.returns-in-Err-clause-ends
-returns-in-Err-clause-ends g c = ends_unread _ _ _ _ c.in-Err.ensures
+pub returns-in-Ok-Err-clause-ends : goal.returns-in-Ok-Err-clause-ends
+returns-in-Ok-Err-clause-ends g c = ends_unread _ _ _ _ (rw c.in-Ok-Err.field-0-is at c.in-Ok-Err.ensures)
 
 pub returns-in-Err-read_input-clause-ends : goal.returns-in-Err-read_input-clause-ends
 returns-in-Err-read_input-clause-ends g c =
-    ends_reading _ c.in-Ok.command (g.S.Source.left c.args.input.now) (g.S.Source.left c.read_input.new.input) (g.O.Sink.holds c.args.out.now)
-    (g.S.Source.faults c.args.input.now) (g.S.Source.faults c.read_input.new.input) c.in-Err-read_input.stop c.in-Ok.ensures (reads_input c.in-Ok.command c.in_default.not-DrawQuartic) c.in-Err-read_input.ensures.read
+    ends_reading _ c.in-Ok-Ok.command (g.S.Source.left c.args.input.now) (g.S.Source.left c.read_input.new.input) (g.O.Sink.holds c.args.out.now)
+    (g.S.Source.faults c.args.input.now) (g.S.Source.faults c.read_input.new.input) c.in-Err-read_input.stop (rw c.in-Ok-Ok.field-0-is at c.in-Ok-Ok.ensures) (reads_input c.in-Ok-Ok.command c.in_default.not-DrawQuartic) c.in-Err-read_input.ensures.read
 
 pub returns-in-Err-answer-clause-ends : goal.returns-in-Err-answer-clause-ends
 returns-in-Err-answer-clause-ends g c =
-    ends_answering _ c.in-Ok.command (g.S.Source.left c.args.input.now) (g.S.Source.left c.read_input.new.input) (g.O.Sink.holds c.args.out.now)
-    (g.S.Source.faults c.args.input.now) (g.S.Source.faults c.read_input.new.input) c.in-Ok-read_input.bytes.items c.deref.result.now c.in-Err-answer.stop
-    c.in-Ok.ensures (reads_input c.in-Ok.command c.in_default.not-DrawQuartic) c.in-Ok-read_input.ensures.read c.deref.ensures.value c.in-Err-answer.ensures
+    ends_answering _ c.in-Ok-Ok.command (g.S.Source.left c.args.input.now) (g.S.Source.left c.read_input.new.input) (g.O.Sink.holds c.args.out.now)
+    (g.S.Source.faults c.args.input.now) (g.S.Source.faults c.read_input.new.input) c.in-Ok.bytes.items c.deref.result.now c.in-Err-answer.stop
+    (rw c.in-Ok-Ok.field-0-is at c.in-Ok-Ok.ensures) (reads_input c.in-Ok-Ok.command c.in_default.not-DrawQuartic) c.in-Ok.ensures.read c.deref.ensures.value c.in-Err-answer.ensures
 
 pub returns-clause-ends : goal.returns-clause-ends
 returns-clause-ends g c =
-    ends_writing _ c.in-Ok.command (g.S.Source.left c.args.input.now) (g.S.Source.left c.read_input.new.input) (g.O.Sink.holds c.args.out.now)
+    ends_writing _ c.in-Ok-Ok.command (g.S.Source.left c.args.input.now) (g.S.Source.left c.read_input.new.input) (g.O.Sink.holds c.args.out.now)
     (g.O.Sink.holds c.write_text.new.out) (g.S.Source.faults c.args.input.now) (g.S.Source.faults c.read_input.new.input)
-    (g.O.Sink.faults c.args.out.now) (g.O.Sink.faults c.write_text.new.out) c.in-Ok-read_input.bytes.items c.deref.result.now c.in-Ok-answer.text
-    c.deref-2.result.now c.write_text.result c.in-Ok.ensures (reads_input c.in-Ok.command c.in_default.not-DrawQuartic) c.in-Ok-read_input.ensures.read c.deref.ensures.value c.in-Ok-answer.ensures
+    (g.O.Sink.faults c.args.out.now) (g.O.Sink.faults c.write_text.new.out) c.in-Ok.bytes.items c.deref.result.now c.in-Ok-answer.text
+    c.deref-2.result.now c.write_text.result (rw c.in-Ok-Ok.field-0-is at c.in-Ok-Ok.ensures) (reads_input c.in-Ok-Ok.command c.in_default.not-DrawQuartic) c.in-Ok.ensures.read c.deref.ensures.value c.in-Ok-answer.ensures
     c.deref-2.ensures.value c.write_text.ensures.written
 
 pub returns-in-DrawQuartic-clause-ends : goal.returns-in-DrawQuartic-clause-ends
@@ -35,5 +35,5 @@ returns-in-DrawQuartic-clause-ends g c =
     ends_drawing _ (DrawQuartic c.in-DrawQuartic.size c.in-DrawQuartic.seed c.in-DrawQuartic.count) (quartic_choices c.in-DrawQuartic.size)
     (SamplesQuartic c.in-DrawQuartic.size) c.in-DrawQuartic.seed c.in-DrawQuartic.count (g.S.Source.left c.args.input.now) (g.O.Sink.holds c.args.out.now)
     (g.O.Sink.holds c.draw.new.out) (g.O.Sink.faults c.args.out.now) (g.O.Sink.faults c.draw.new.out) c.draw.result
-    (subst (λ (command : Command). Spells (map string_bytes c.args.words.now) command) c.in-DrawQuartic.is c.in-Ok.ensures) refl
+    (subst (λ (command : Command). Spells (map string_bytes c.args.words.now) command) c.in-DrawQuartic.is (rw c.in-Ok-Ok.field-0-is at c.in-Ok-Ok.ensures)) refl
     (λ bytes text is. is) (λ text is. is) c.draw.ensures

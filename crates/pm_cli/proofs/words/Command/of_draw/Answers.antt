@@ -1,6 +1,6 @@
 use Rattle.std.proofs.Common.{ℕ, false, List, [], ◌∷◌, IsTrue, refl, sym, ap, ◌∙◌, arith}
 use Rattle.std.specs.Prelude.{codes, string_bytes, slice_index_or}
-use Rattle.pm_cli.proofs.SampleWords.{second_word, third_word, no_second, no_third, same_second, same_third, some_word}
+use Rattle.pm_cli.proofs.WordPlaces.{second_word, third_word, no_second, no_third, same_second, same_third, some_word}
 use Rattle.pm_cli.proofs.DrawWords.{draw_alone, draw_class, draw_size, draw_whole}
 use Rattle.pm_cli.proofs.words.Command.of_draw.Goals as goal
 use Rattle.pm_cli.proofs.words.Command.of_draw.Goals.{then-words-eq1-via-then-words-eq1, then-words-eq1-via-else-words-eq1+then-not-is_word}

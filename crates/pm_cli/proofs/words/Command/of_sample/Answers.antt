@@ -1,47 +1,20 @@
-use Rattle.std.proofs.Common.{◌≡◌, ℕ, ◌<◌, false, List, [], ◌∷◌, IsTrue, refl, sym, ap, ◌∙◌, arith}
-use Rattle.std.specs.Prelude.{codes, string_bytes, slice_index_or}
-use Rattle.std.proofs.lemmas.List.{length-map}
-use Rattle.pm_cli.proofs.SampleWords.{sample_alone, sample_class, sample_more, second_word, third_word, no_second, no_third, same_second, same_third, some_word}
+use Rattle.std.proofs.Common.{IsTrue, false, sym, ap, ◌∙◌, arith}
+use Rattle.std.specs.Prelude.{string_bytes}
+use Rattle.pm_cli.proofs.CommandWords.{sample_alone}
+use Rattle.pm_cli.proofs.WordPlaces.{some_word, second_word, no_second, same_second}
 use Rattle.pm_cli.proofs.words.Command.of_sample.Goals as goal
-use Rattle.pm_cli.proofs.words.Command.of_sample.Goals.{then-words-eq1-via-then-words-eq1, then-words-eq1-via-else-words-eq1+then-not-is_word}
 
 false_true : IsTrue false → ⊥
 false_true e = cc
 
 pub returns-then-words-eq1 : goal.returns-then-words-eq1
-returns-then-words-eq1 c = sample_alone _ c.requires (elim c.then-words-eq1.branch [
-  | then-words-eq1-via-then-words-eq1 w ↦ no_second string_bytes c.args.words.now _ _ w.if-words-eq1.true
-  | then-words-eq1-via-else-words-eq1+then-not-is_word w ↦
-      λ two. let some = some_word string_bytes c.args.words.now _ c.requires in
-      let is = second_word string_bytes c.args.words.now w.index-words-1.result _ c.requires (omega (arith, w.if-words-eq1.false)) in
-      let word = same_second (sym is ∙ two) in
-      false_true (w.if-not-is_word.ensures.1 (ap string_bytes w.index-words-1.is ∙ word))
-])
+returns-then-words-eq1 c =
+    sample_alone _ c.requires (no_second string_bytes c.args.words.now _ _ c.if-words-eq1.true) (no_second string_bytes c.args.words.now _ _ c.if-words-eq1.true)
 
-pub returns-then-words-eq2 : goal.returns-then-words-eq2
-returns-then-words-eq2 c =
-    let is = second_word string_bytes c.args.words.now c.index-words-1.result _ c.requires (omega (arith, c.if-words-eq2.true)) in
-    let word = sym (ap string_bytes c.index-words-1.is) ∙ c.if-not-is_word.ensures.0 refl in
-    sample_class _ (is ∙ ap (λ (w : List ℕ). codes "sample" ∷ w ∷ []) word) (λ size _ e. no_third string_bytes c.args.words.now _ _ _ c.if-words-eq2.true e)
-
-pub returns-in_default : goal.returns-in_default
-returns-in_default c =
+pub returns : goal.returns
+returns c =
     let some = some_word string_bytes c.args.words.now _ c.requires in
     let is = second_word string_bytes c.args.words.now c.index-words-1.result _ c.requires (omega (arith, c.if-words-eq1.false)) in
-    let word = sym (ap string_bytes c.index-words-1.is) ∙ c.if-not-is_word.ensures.0 refl in
-    let three = third_word string_bytes c.args.words.now c.index-words-1.result c.index-words-2.result _ c.requires (omega (arith, c.if-words-eq1.false, c.if-words-eq2.false)) in
-    sample_class _ (is ∙ ap (λ (w : List ℕ). codes "sample" ∷ w ∷ []) word)
-    (λ size is_size e. c.in_default.ensures size is_size (ap string_bytes c.index-words-2.is ∙ same_third (sym three ∙ e)))
-
-pub returns-else-words-eq3 : goal.returns-else-words-eq3
-returns-else-words-eq3 c =
-    let some = some_word string_bytes c.args.words.now _ c.requires in
-    let word = sym (ap string_bytes c.index-words-1.is) ∙ c.if-not-is_word.ensures.0 refl in
-    let size = sym (ap string_bytes c.index-words-2.is) ∙ c.in-Some.ensures.1 in
-    let three = third_word string_bytes c.args.words.now c.index-words-1.result c.index-words-2.result _ c.requires (omega (arith, c.if-words-eq1.false, c.if-words-eq2.false)) in
-    sample_more _ c.in-Some.size c.in-Some.ensures.0
-    (three ∙ ap (λ (w : List ℕ). codes "sample" ∷ w ∷ string_bytes (slice_index_or c.args.words.now 2 c.index-words-2.result) ∷ []) word
-    ∙ ap (λ (w : List ℕ). codes "sample" ∷ codes "quartic" ∷ w ∷ []) size)
-    (more (omega (arith, c.if-words-eq1.false, c.if-words-eq2.false, c.if-words-eq3.false)) (length-map c.args.words.now string_bytes)) where
-      more : {m n : ℕ} → 3 < n → m ≡ n → 3 < m
-      more l e = omega arith
+    let again = second_word string_bytes c.args.words.now c.index-words-1-2.result _ c.requires (omega (arith, c.if-words-eq1.false)) in
+    sample_alone _ c.requires (λ two. false_true (c.if-is_word.ensures.1 (ap string_bytes c.index-words-1.is ∙ same_second (sym is ∙ two))))
+    (λ two. false_true (c.if-is_word-2.ensures.1 (ap string_bytes c.index-words-1-2.is ∙ same_second (sym again ∙ two))))

@@ -1,0 +1,30 @@
+use Rattle.std.proofs.Common.{◌≡◌, ℕ, ◌<◌, true, false, IsTrue, sym, ap, ◌∙◌, arith}
+use Rattle.std.specs.Prelude.{◌==◌, string_bytes}
+use Rattle.std.proofs.lemmas.Bool.Decides.{nat_tests}
+use Rattle.pm_cli.proofs.CommandWords.{no_first_word}
+use Rattle.pm_cli.proofs.WordPlaces.{some_word, first_word, same_first}
+use Rattle.pm_cli.proofs.words.Command.of_words.Goals as goal
+
+false_true : IsTrue false → ⊥
+false_true e = cc
+
+no_length : (n : ℕ) → true ≡ (n == 0) → 0 < n → ⊥
+no_length n e l = grind (arith, nat_tests)
+
+some_length : (n : ℕ) → false ≡ (n == 0) → 0 < n
+some_length n e = grind (arith, nat_tests)
+
+pub returns-then-is_empty : goal.returns-then-is_empty
+returns-then-is_empty c =
+    no_first_word _ (λ one. no_length _ c.if-is_empty.ensures (some_word string_bytes c.args.words.now _ one)) (λ one. no_length _ c.if-is_empty.ensures (some_word string_bytes c.args.words.now _ one))
+    (λ one. no_length _ c.if-is_empty.ensures (some_word string_bytes c.args.words.now _ one)) (λ one. no_length _ c.if-is_empty.ensures (some_word string_bytes c.args.words.now _ one))
+    (λ one. no_length _ c.if-is_empty.ensures (some_word string_bytes c.args.words.now _ one))
+
+pub returns : goal.returns
+returns c =
+    let some = some_length _ c.if-is_empty.ensures in
+    no_first_word _ (λ one. false_true (c.if-is_word.ensures.1 (ap string_bytes c.index-words-0.is ∙ same_first (sym (first_word string_bytes c.args.words.now c.index-words-0.result some) ∙ one))))
+    (λ one. false_true (c.if-is_word-2.ensures.1 (ap string_bytes c.index-words-0-2.is ∙ same_first (sym (first_word string_bytes c.args.words.now c.index-words-0-2.result some) ∙ one))))
+    (λ one. false_true (c.if-is_word-3.ensures.1 (ap string_bytes c.index-words-0-3.is ∙ same_first (sym (first_word string_bytes c.args.words.now c.index-words-0-3.result some) ∙ one))))
+    (λ one. false_true (c.if-is_word-4.ensures.1 (ap string_bytes c.index-words-0-4.is ∙ same_first (sym (first_word string_bytes c.args.words.now c.index-words-0-4.result some) ∙ one))))
+    (λ one. false_true (c.if-is_word-5.ensures.1 (ap string_bytes c.index-words-0-5.is ∙ same_first (sym (first_word string_bytes c.args.words.now c.index-words-0-5.result some) ∙ one))))
