@@ -2,12 +2,14 @@
 use Rattle.std.proofs.Common.{◌≡◌, ℕ, List, [], ◌++◌, refl, sym, ◌∙◌, subst}
 use Rattle.std.specs.Prelude.{Result, Ok}
 use Rattle.std.proofs.lemmas.List.{append-nil}
-use Rattle.pm_euler.specs.Bounds.{quartic_choices}
+use Rattle.pm_euler.specs.Bounds.{quartic_choices, eulerian_choices}
 use Rattle.pm_euler.specs.Quartic.{SamplesQuartic}
+use Rattle.pm_euler.specs.Eulerian.{SamplesEulerian}
+use Rattle.pm_euler.proofs.EulerianSamples.{one_eulerian_sample}
 use Rattle.pm_euler.proofs.OneSample.{one_quartic_sample}
 use Rattle.pm_draw.specs.Drawn.{generator_of, words_of}
 use Rattle.pm_cli.specs.declared.words.Command.{Command}
-use Rattle.pm_cli.specs.declared.words.Command.TheVariants.{CloseEulerian, Canon, CheckGeneral, CheckQuartic, CheckEulerian, SampleQuartic, SampleEulerian, DrawQuartic}
+use Rattle.pm_cli.specs.declared.words.Command.TheVariants.{CloseEulerian, Canon, CheckGeneral, CheckQuartic, CheckEulerian, SampleQuartic, SampleEulerian, DrawQuartic, DrawEulerian}
 use Rattle.pm_cli.specs.declared.refusal.Refusal.{Refusal}
 use Rattle.pm_cli.specs.Commands.{IsCommand, Spells}
 use Rattle.pm_cli.specs.Answer.{Answers, no_command, too_long, of_file, of_words, CommandAnswers}
@@ -39,6 +41,10 @@ records_in_front : (command : Command) → IsCommand command → (bytes begun te
 records_in_front (DrawQuartic size seed count) is bytes begun text x y =
     fewer_in_front (quartic_choices size) (SamplesQuartic size)
     (one_sample_text (quartic_choices size) (SamplesQuartic size) (one_quartic_sample size is.0) (λ choices m r h. h.valid))
+    (words_of (generator_of seed)) x.records count begun text x.within x.is_drawing y
+records_in_front (DrawEulerian profile seed count) is bytes begun text x y =
+    fewer_in_front (eulerian_choices profile) (SamplesEulerian profile)
+    (one_sample_text (eulerian_choices profile) (SamplesEulerian profile) (one_eulerian_sample profile is.0) (λ choices m r h. h.valid))
     (words_of (generator_of seed)) x.records count begun text x.within x.is_drawing y
 records_in_front CloseEulerian is bytes begun text x y = absurd x
 records_in_front Canon is bytes begun text x y = absurd x

@@ -6,7 +6,7 @@ use Rattle.std.proofs.lemmas.List.{take_all}
 use Rattle.pm_trees.specs.Pairs.{IsRightPair, IsProfile}
 use Rattle.pm_euler.specs.Quartic.{IsQuarticSize}
 use Rattle.pm_cli.specs.declared.words.Command.{Command}
-use Rattle.pm_cli.specs.declared.words.Command.TheVariants.{CloseEulerian, Canon, CheckGeneral, CheckQuartic, CheckEulerian, SampleQuartic, SampleEulerian, DrawQuartic}
+use Rattle.pm_cli.specs.declared.words.Command.TheVariants.{CloseEulerian, Canon, CheckGeneral, CheckQuartic, CheckEulerian, SampleQuartic, SampleEulerian, DrawQuartic, DrawEulerian}
 use Rattle.pm_cli.specs.Commands.{spelling, IsCommand, Spells, Begins, IsNoCommand}
 use Rattle.pm_cli.specs.ProfileWord.{profile_text}
 
@@ -79,6 +79,7 @@ long CheckEulerian = refl
 long (SampleQuartic size) = refl
 long (SampleEulerian profile) = refl
 long (DrawQuartic size seed count) = refl
+long (DrawEulerian profile seed count) = refl
 
 some_long : (command : Command) → 0 < length (spelling command)
 some_long CloseEulerian = omega arith
@@ -89,6 +90,7 @@ some_long CheckEulerian = omega arith
 some_long (SampleQuartic size) = omega arith
 some_long (SampleEulerian profile) = omega arith
 some_long (DrawQuartic size seed count) = omega arith
+some_long (DrawEulerian profile seed count) = omega arith
 
 -- the words of a command, and more of them
 pub more_words : (ws : List (List ℕ)) (command : Command) (k : ℕ) → IsCommand command → length (spelling command) ≡ k → take k ws ≡ spelling command → k < length ws → IsNoCommand ws k
@@ -117,6 +119,7 @@ no_first ws close canon check sample draw CheckEulerian is e = check e
 no_first ws close canon check sample draw (SampleQuartic size) is e = sample e
 no_first ws close canon check sample draw (SampleEulerian profile) is e = sample e
 no_first ws close canon check sample draw (DrawQuartic size seed count) is e = draw e
+no_first ws close canon check sample draw (DrawEulerian profile seed count) is e = draw e
 
 -- no first word of a command
 pub no_first_word : (ws : List (List ℕ)) → (take 1 ws ≡ codes "close" ∷ [] → ⊥) → (take 1 ws ≡ codes "canon" ∷ [] → ⊥) → (take 1 ws ≡ codes "check" ∷ [] → ⊥) → (take 1 ws ≡ codes "sample" ∷ [] → ⊥) → (take 1 ws ≡ codes "draw" ∷ [] → ⊥) → IsNoCommand ws 0
@@ -140,6 +143,7 @@ no_close ws first eulerian CheckEulerian is e = other_first 2 ws (spelling Check
 no_close ws first eulerian (SampleQuartic size) is e = other_first 2 ws (spelling (SampleQuartic size)) 111 109 (omega arith) (first_letter ws (codes "close") 111 first refl) refl (λ same. omega arith) e
 no_close ws first eulerian (SampleEulerian profile) is e = other_first 2 ws (spelling (SampleEulerian profile)) 111 109 (omega arith) (first_letter ws (codes "close") 111 first refl) refl (λ same. omega arith) e
 no_close ws first eulerian (DrawQuartic size seed count) is e = other_first 2 ws (spelling (DrawQuartic size seed count)) 111 97 (omega arith) (first_letter ws (codes "close") 111 first refl) refl (λ same. omega arith) e
+no_close ws first eulerian (DrawEulerian profile seed count) is e = other_first 2 ws (spelling (DrawEulerian profile seed count)) 111 97 (omega arith) (first_letter ws (codes "close") 111 first refl) refl (λ same. omega arith) e
 
 -- `close` alone, or with another class
 pub close_alone : (ws : List (List ℕ)) → take 1 ws ≡ codes "close" ∷ [] → (take 2 ws ≡ codes "close" ∷ codes "eulerian" ∷ [] → ⊥) → IsNoCommand ws 1
@@ -156,6 +160,7 @@ no_check ws first general quartic eulerian CheckEulerian is e = eulerian e
 no_check ws first general quartic eulerian (SampleQuartic size) is e = other_first 2 ws (spelling (SampleQuartic size)) 101 109 (omega arith) (first_letter ws (codes "check") 101 first refl) refl (λ same. omega arith) e
 no_check ws first general quartic eulerian (SampleEulerian profile) is e = other_first 2 ws (spelling (SampleEulerian profile)) 101 109 (omega arith) (first_letter ws (codes "check") 101 first refl) refl (λ same. omega arith) e
 no_check ws first general quartic eulerian (DrawQuartic size seed count) is e = other_first 2 ws (spelling (DrawQuartic size seed count)) 101 97 (omega arith) (first_letter ws (codes "check") 101 first refl) refl (λ same. omega arith) e
+no_check ws first general quartic eulerian (DrawEulerian profile seed count) is e = other_first 2 ws (spelling (DrawEulerian profile seed count)) 101 97 (omega arith) (first_letter ws (codes "check") 101 first refl) refl (λ same. omega arith) e
 
 -- `check` alone, or with another class
 pub check_alone : (ws : List (List ℕ)) → take 1 ws ≡ codes "check" ∷ [] → (take 2 ws ≡ codes "check" ∷ codes "general" ∷ [] → ⊥) → (take 2 ws ≡ codes "check" ∷ codes "quartic" ∷ [] → ⊥) → (take 2 ws ≡ codes "check" ∷ codes "eulerian" ∷ [] → ⊥) → IsNoCommand ws 1
@@ -172,17 +177,18 @@ no_sample ws first quartic eulerian CheckEulerian is e = other_first 2 ws (spell
 no_sample ws first quartic eulerian (SampleQuartic size) is e = quartic e
 no_sample ws first quartic eulerian (SampleEulerian profile) is e = eulerian e
 no_sample ws first quartic eulerian (DrawQuartic size seed count) is e = other_first 2 ws (spelling (DrawQuartic size seed count)) 109 97 (omega arith) (first_letter ws (codes "sample") 109 first refl) refl (λ same. omega arith) e
+no_sample ws first quartic eulerian (DrawEulerian profile seed count) is e = other_first 2 ws (spelling (DrawEulerian profile seed count)) 109 97 (omega arith) (first_letter ws (codes "sample") 109 first refl) refl (λ same. omega arith) e
 
 -- `sample` alone, or with another class
 pub sample_alone : (ws : List (List ℕ)) → take 1 ws ≡ codes "sample" ∷ [] → (take 2 ws ≡ codes "sample" ∷ codes "quartic" ∷ [] → ⊥) → (take 2 ws ≡ codes "sample" ∷ codes "eulerian" ∷ [] → ⊥) → IsNoCommand ws 1
 sample_alone ws first quartic eulerian = stops_at ws 1 (record { command = SampleQuartic 1; is_command = one_is_a_size; within = some_words ws 1 (ap length first); same = first }) (no_sample ws first quartic eulerian)
 
 -- words of another class
-other_second : (ws vs us : List (List ℕ)) (a b : ℕ) → take 2 ws ≡ vs → second_letter vs ≡ a → second_letter (take 2 us) ≡ b → (a ≡ b → ⊥) → take 3 ws ≡ take 3 us → ⊥
+pub other_second : (ws vs us : List (List ℕ)) (a b : ℕ) → take 2 ws ≡ vs → second_letter vs ≡ a → second_letter (take 2 us) ≡ b → (a ≡ b → ⊥) → take 3 ws ≡ take 3 us → ⊥
 other_second ws vs us a b two x y differ e = differ (sym x ∙ ap second_letter (sym two ∙ front 2 3 ws us (omega arith) e) ∙ y)
 
 -- one vertex of degree 2 is a profile
-one_is_a_profile : IsProfile ((2, 1) ∷ [])
+pub one_is_a_profile : IsProfile ((2, 1) ∷ [])
 one_is_a_profile = record { are_pairs = record { some = omega arith; right = right }; few = lit≤ tt } where
   right : (k : ℕ) → k < 1 → IsRightPair ((2, 1) ∷ []) k
   right zero l = record { even = refl; some = omega arith; few = omega arith; rising = omega arith; counted = omega arith }
@@ -200,6 +206,7 @@ no_quartic ws two none CheckEulerian is e = other_first 3 ws (spelling CheckEule
 no_quartic ws two none (SampleQuartic size) is e = none size is e
 no_quartic ws two none (SampleEulerian profile) is e = other_second ws (codes "sample" ∷ codes "quartic" ∷ []) (spelling (SampleEulerian profile)) 113 101 two refl refl (λ same. omega arith) e
 no_quartic ws two none (DrawQuartic size seed count) is e = other_first 3 ws (spelling (DrawQuartic size seed count)) 109 97 (omega arith) (first_letter ws (codes "sample") 109 (front 1 2 ws (codes "sample" ∷ codes "quartic" ∷ []) (omega arith) two) refl) refl (λ same. omega arith) e
+no_quartic ws two none (DrawEulerian profile seed count) is e = other_first 3 ws (spelling (DrawEulerian profile seed count)) 109 97 (omega arith) (first_letter ws (codes "sample") 109 (front 1 2 ws (codes "sample" ∷ codes "quartic" ∷ []) (omega arith) two) refl) refl (λ same. omega arith) e
 
 pub quartic_class : (ws : List (List ℕ)) → take 2 ws ≡ codes "sample" ∷ codes "quartic" ∷ [] → ((size : ℕ) → IsQuarticSize size → take 3 ws ≡ codes "sample" ∷ codes "quartic" ∷ decimal size ∷ [] → ⊥) → IsNoCommand ws 2
 quartic_class ws two none =
@@ -216,6 +223,7 @@ no_eulerian ws two none CheckEulerian is e = other_first 3 ws (spelling CheckEul
 no_eulerian ws two none (SampleQuartic size) is e = other_second ws (codes "sample" ∷ codes "eulerian" ∷ []) (spelling (SampleQuartic size)) 101 113 two refl refl (λ same. omega arith) e
 no_eulerian ws two none (SampleEulerian profile) is e = none profile is e
 no_eulerian ws two none (DrawQuartic size seed count) is e = other_first 3 ws (spelling (DrawQuartic size seed count)) 109 97 (omega arith) (first_letter ws (codes "sample") 109 (front 1 2 ws (codes "sample" ∷ codes "eulerian" ∷ []) (omega arith) two) refl) refl (λ same. omega arith) e
+no_eulerian ws two none (DrawEulerian profile seed count) is e = other_first 3 ws (spelling (DrawEulerian profile seed count)) 109 97 (omega arith) (first_letter ws (codes "sample") 109 (front 1 2 ws (codes "sample" ∷ codes "eulerian" ∷ []) (omega arith) two) refl) refl (λ same. omega arith) e
 
 pub eulerian_class : (ws : List (List ℕ)) → take 2 ws ≡ codes "sample" ∷ codes "eulerian" ∷ [] → ((profile : List (ℕ × ℕ)) → IsProfile profile → take 3 ws ≡ codes "sample" ∷ codes "eulerian" ∷ profile_text profile ∷ [] → ⊥) → IsNoCommand ws 2
 eulerian_class ws two none =

@@ -7,7 +7,7 @@ use Rattle.pm_io.specs.Bytes.{added}
 use Rattle.pm_io.specs.Faults.{FaultsRose}
 use Rattle.pm_map.specs.Rotation.{RotationSystem}
 use Rattle.pm_cli.specs.declared.words.Command.{Command}
-use Rattle.pm_cli.specs.declared.words.Command.TheVariants.{CloseEulerian, Canon, CheckGeneral, CheckQuartic, CheckEulerian, SampleQuartic, SampleEulerian, DrawQuartic}
+use Rattle.pm_cli.specs.declared.words.Command.TheVariants.{CloseEulerian, Canon, CheckGeneral, CheckQuartic, CheckEulerian, SampleQuartic, SampleEulerian, DrawQuartic, DrawEulerian}
 use Rattle.pm_cli.specs.declared.refusal.Limit.TheVariants.{Bytes, Letters, Edges}
 use Rattle.pm_cli.specs.declared.refusal.Refusal.{Refusal}
 use Rattle.pm_cli.specs.declared.refusal.Refusal.TheVariants.{Usage, Text, Limited, Map, Tree, Invalid}
@@ -29,15 +29,17 @@ flush_failed text old mid new faults_old faults_mid faults_new whole stays calm 
     ((length text, stays ∙ whole ∙ ap (added old) (sym (take-length text))), subst (λ (f : ℕ). FaultsRose f faults_new) calm rose)
 
 -- every command reads but those that draw
-pub reads_input : (command : Command) → ((size seed count : ℕ) → command ≡ DrawQuartic size seed count → ⊥) → reads command ≡ true
-reads_input CloseEulerian other = refl
-reads_input Canon other = refl
-reads_input CheckGeneral other = refl
-reads_input CheckQuartic other = refl
-reads_input CheckEulerian other = refl
-reads_input (SampleQuartic size) other = refl
-reads_input (SampleEulerian profile) other = refl
-reads_input (DrawQuartic size seed count) other = absurd (other size seed count refl)
+pub reads_input : (command : Command) → ((size seed count : ℕ) → command ≡ DrawQuartic size seed count → ⊥)
+    → ((profile : List (ℕ × ℕ)) (seed count : ℕ) → command ≡ DrawEulerian profile seed count → ⊥) → reads command ≡ true
+reads_input CloseEulerian other another = refl
+reads_input Canon other another = refl
+reads_input CheckGeneral other another = refl
+reads_input CheckQuartic other another = refl
+reads_input CheckEulerian other another = refl
+reads_input (SampleQuartic size) other another = refl
+reads_input (SampleEulerian profile) other another = refl
+reads_input (DrawQuartic size seed count) other another = absurd (other size seed count refl)
+reads_input (DrawEulerian profile seed count) other another = absurd (another profile seed count refl)
 
 -- words of a command that reads are none of one that reads nothing
 pub no_reader : (words : List (List ℕ)) (command : Command) → Spells words command → reads command ≡ true → ReadNothing words → ⊥

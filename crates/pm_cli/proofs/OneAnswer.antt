@@ -11,7 +11,7 @@ use Rattle.pm_euler.proofs.EulerianSamples.{one_eulerian_sample}
 use Rattle.pm_euler.proofs.OneSample.{one_quartic_sample}
 use Rattle.pm_euler.proofs.QuarticMaps.{one_quartic_answer}
 use Rattle.pm_cli.specs.declared.words.Command.{Command}
-use Rattle.pm_cli.specs.declared.words.Command.TheVariants.{CloseEulerian, Canon, CheckGeneral, CheckQuartic, CheckEulerian, SampleQuartic, SampleEulerian, DrawQuartic}
+use Rattle.pm_cli.specs.declared.words.Command.TheVariants.{CloseEulerian, Canon, CheckGeneral, CheckQuartic, CheckEulerian, SampleQuartic, SampleEulerian, DrawQuartic, DrawEulerian}
 use Rattle.pm_cli.specs.declared.refusal.Refusal.{Refusal}
 use Rattle.pm_cli.specs.declared.refusal.Refusal.TheVariants.{Usage}
 use Rattle.pm_cli.specs.MapCommands.{HasCanonicalText, IsCountsText}
@@ -35,6 +35,8 @@ answers_once (SampleEulerian profile) is bytes a b x y =
     samples_once (eulerian_choices profile) (SamplesEulerian profile) (one_eulerian_sample profile is) (λ choices m r h. h.valid) bytes a b x y
 answers_once (DrawQuartic size seed count) is bytes a b x y =
     draws_once (quartic_choices size) (SamplesQuartic size) (one_quartic_sample size is.0) (λ choices m r h. h.valid) seed count a b x y
+answers_once (DrawEulerian profile seed count) is bytes a b x y =
+    draws_once (eulerian_choices profile) (SamplesEulerian profile) (one_eulerian_sample profile is.0) (λ choices m r h. h.valid) seed count a b x y
 
 -- words don't spell a command that reads and one that reads nothing
 reads_or_not : (words : List (List ℕ)) (command other : Command) → Spells words command → Spells words other → reads command ≡ true → reads other ≡ false → ⊥

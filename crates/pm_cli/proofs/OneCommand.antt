@@ -4,7 +4,7 @@ use Rattle.std.proofs.lemmas.Fmt.{decimal_injective}
 use Rattle.std.specs.Prelude.{decimal}
 use Rattle.pm_euler.specs.Quartic.{IsQuarticSize}
 use Rattle.pm_cli.specs.declared.words.Command.{Command}
-use Rattle.pm_cli.specs.declared.words.Command.TheVariants.{CloseEulerian, Canon, CheckGeneral, CheckQuartic, CheckEulerian, SampleQuartic, SampleEulerian, DrawQuartic}
+use Rattle.pm_cli.specs.declared.words.Command.TheVariants.{CloseEulerian, Canon, CheckGeneral, CheckQuartic, CheckEulerian, SampleQuartic, SampleEulerian, DrawQuartic, DrawEulerian}
 use Rattle.pm_cli.specs.Commands.{spelling, AreDrawNumbers, IsCommand}
 use Rattle.pm_cli.proofs.NumberWords.{third_of_five, fourth_of_five, fifth}
 use Rattle.pm_cli.proofs.PairTexts.{one_profile}
@@ -26,6 +26,9 @@ one_count s c t d x y e = let p = x.few in let q = y.few in decimal_injective c 
 
 one_drawing : {a b c d e f : ℕ} → a ≡ d → b ≡ e → c ≡ f → DrawQuartic a b c ≡ DrawQuartic d e f
 one_drawing x y z = cc
+
+one_profile_drawing : {a d : List (ℕ × ℕ)} {b c e f : ℕ} → a ≡ d → b ≡ e → c ≡ f → DrawEulerian a b c ≡ DrawEulerian d e f
+one_profile_drawing x y z = cc
 
 pub one_command : (command other : Command) → IsCommand command → IsCommand other → spelling command ≡ spelling other → command ≡ other
 unfolding second_letter third_letter
@@ -94,4 +97,23 @@ one_command (SampleEulerian profile) (DrawQuartic other_size other_seed other_co
 one_command (DrawQuartic size seed count) (SampleEulerian other_profile) is other same = absurd (apart third_letter 97 109 (DrawQuartic size seed count) (SampleEulerian other_profile) refl refl (λ e. omega arith) same)
 one_command (DrawQuartic size seed count) (DrawQuartic other_size other_seed other_count) is other same =
     one_drawing (one_size size other_size is.0 other.0 (third_of_five same)) (one_seed seed count other_seed other_count is.1 other.1 (fourth_of_five same))
+    (one_count seed count other_seed other_count is.1 other.1 (fifth same))
+one_command CloseEulerian (DrawEulerian other_profile other_seed other_count) is other same = absurd (apart third_letter 111 97 CloseEulerian (DrawEulerian other_profile other_seed other_count) refl refl (λ e. omega arith) same)
+one_command (DrawEulerian profile seed count) CloseEulerian is other same = absurd (apart third_letter 97 111 (DrawEulerian profile seed count) CloseEulerian refl refl (λ e. omega arith) same)
+one_command Canon (DrawEulerian other_profile other_seed other_count) is other same = absurd (apart third_letter 110 97 Canon (DrawEulerian other_profile other_seed other_count) refl refl (λ e. omega arith) same)
+one_command (DrawEulerian profile seed count) Canon is other same = absurd (apart third_letter 97 110 (DrawEulerian profile seed count) Canon refl refl (λ e. omega arith) same)
+one_command CheckGeneral (DrawEulerian other_profile other_seed other_count) is other same = absurd (apart third_letter 101 97 CheckGeneral (DrawEulerian other_profile other_seed other_count) refl refl (λ e. omega arith) same)
+one_command (DrawEulerian profile seed count) CheckGeneral is other same = absurd (apart third_letter 97 101 (DrawEulerian profile seed count) CheckGeneral refl refl (λ e. omega arith) same)
+one_command CheckQuartic (DrawEulerian other_profile other_seed other_count) is other same = absurd (apart third_letter 101 97 CheckQuartic (DrawEulerian other_profile other_seed other_count) refl refl (λ e. omega arith) same)
+one_command (DrawEulerian profile seed count) CheckQuartic is other same = absurd (apart third_letter 97 101 (DrawEulerian profile seed count) CheckQuartic refl refl (λ e. omega arith) same)
+one_command CheckEulerian (DrawEulerian other_profile other_seed other_count) is other same = absurd (apart third_letter 101 97 CheckEulerian (DrawEulerian other_profile other_seed other_count) refl refl (λ e. omega arith) same)
+one_command (DrawEulerian profile seed count) CheckEulerian is other same = absurd (apart third_letter 97 101 (DrawEulerian profile seed count) CheckEulerian refl refl (λ e. omega arith) same)
+one_command (SampleQuartic size) (DrawEulerian other_profile other_seed other_count) is other same = absurd (apart third_letter 109 97 (SampleQuartic size) (DrawEulerian other_profile other_seed other_count) refl refl (λ e. omega arith) same)
+one_command (DrawEulerian profile seed count) (SampleQuartic other_size) is other same = absurd (apart third_letter 97 109 (DrawEulerian profile seed count) (SampleQuartic other_size) refl refl (λ e. omega arith) same)
+one_command (SampleEulerian profile) (DrawEulerian other_profile other_seed other_count) is other same = absurd (apart third_letter 109 97 (SampleEulerian profile) (DrawEulerian other_profile other_seed other_count) refl refl (λ e. omega arith) same)
+one_command (DrawEulerian profile seed count) (SampleEulerian other_profile) is other same = absurd (apart third_letter 97 109 (DrawEulerian profile seed count) (SampleEulerian other_profile) refl refl (λ e. omega arith) same)
+one_command (DrawQuartic size seed count) (DrawEulerian other_profile other_seed other_count) is other same = absurd (apart second_letter 113 101 (DrawQuartic size seed count) (DrawEulerian other_profile other_seed other_count) refl refl (λ e. omega arith) same)
+one_command (DrawEulerian profile seed count) (DrawQuartic other_size other_seed other_count) is other same = absurd (apart second_letter 101 113 (DrawEulerian profile seed count) (DrawQuartic other_size other_seed other_count) refl refl (λ e. omega arith) same)
+one_command (DrawEulerian profile seed count) (DrawEulerian other_profile other_seed other_count) is other same =
+    one_profile_drawing (one_profile profile other_profile is.0 other.0 (third_of_five same)) (one_seed seed count other_seed other_count is.1 other.1 (fourth_of_five same))
     (one_count seed count other_seed other_count is.1 other.1 (fifth same))

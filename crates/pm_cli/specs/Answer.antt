@@ -2,7 +2,7 @@
 use Rattle.std.specs.Prelude.{◌≡◌, ℕ, ◌<◌, ◌≤◌, true, false, List, length, Result, Err}
 use Rattle.pm_io.specs.declared.TheConstants.{MAX_BYTES}
 use Rattle.pm_cli.specs.declared.words.Command.{Command}
-use Rattle.pm_cli.specs.declared.words.Command.TheVariants.{CloseEulerian, Canon, CheckGeneral, CheckQuartic, CheckEulerian, SampleQuartic, SampleEulerian, DrawQuartic}
+use Rattle.pm_cli.specs.declared.words.Command.TheVariants.{CloseEulerian, Canon, CheckGeneral, CheckQuartic, CheckEulerian, SampleQuartic, SampleEulerian, DrawQuartic, DrawEulerian}
 use Rattle.pm_cli.specs.declared.refusal.Limit.TheVariants.{Bytes}
 use Rattle.pm_cli.specs.declared.refusal.Refusal.{Refusal}
 use Rattle.pm_cli.specs.declared.refusal.Refusal.TheVariants.{Usage, Limited}
@@ -25,6 +25,7 @@ CommandAnswers CheckEulerian bytes answer = ChecksEulerian bytes answer
 CommandAnswers (SampleQuartic size) bytes answer = Samples (quartic_choices size) (SamplesQuartic size) bytes answer
 CommandAnswers (SampleEulerian profile) bytes answer = Samples (eulerian_choices profile) (SamplesEulerian profile) bytes answer
 CommandAnswers (DrawQuartic size seed count) bytes answer = Draws (quartic_choices size) (SamplesQuartic size) seed count answer
+CommandAnswers (DrawEulerian profile seed count) bytes answer = Draws (eulerian_choices profile) (SamplesEulerian profile) seed count answer
 
 -- the answer, by the first rule that applies
 pub data Answers (words : List (List ℕ)) (bytes : List ℕ) : Result (List ℕ) Refusal → Type 0 where

@@ -4,7 +4,7 @@ use Rattle.pm_trees.specs.Pairs.{IsProfile}
 use Rattle.pm_euler.specs.Quartic.{IsQuarticSize}
 use Rattle.pm_cli.specs.declared.words.TheConstants.{MAX_RECORDS}
 use Rattle.pm_cli.specs.declared.words.Command.{Command}
-use Rattle.pm_cli.specs.declared.words.Command.TheVariants.{CloseEulerian, Canon, CheckGeneral, CheckQuartic, CheckEulerian, SampleQuartic, SampleEulerian, DrawQuartic}
+use Rattle.pm_cli.specs.declared.words.Command.TheVariants.{CloseEulerian, Canon, CheckGeneral, CheckQuartic, CheckEulerian, SampleQuartic, SampleEulerian, DrawQuartic, DrawEulerian}
 use Rattle.pm_cli.specs.ProfileWord.{profile_text}
 
 -- the words of a command
@@ -17,6 +17,7 @@ spelling CheckEulerian = codes "check" ∷ codes "eulerian" ∷ []
 spelling (SampleQuartic size) = codes "sample" ∷ codes "quartic" ∷ decimal size ∷ []
 spelling (SampleEulerian profile) = codes "sample" ∷ codes "eulerian" ∷ profile_text profile ∷ []
 spelling (DrawQuartic size seed count) = codes "draw" ∷ codes "quartic" ∷ decimal size ∷ decimal seed ∷ decimal count ∷ []
+spelling (DrawEulerian profile seed count) = codes "draw" ∷ codes "eulerian" ∷ profile_text profile ∷ decimal seed ∷ decimal count ∷ []
 
 -- a seed, and how many records are drawn from it
 pub record AreDrawNumbers (seed count : ℕ) : Type 0 where
@@ -29,6 +30,7 @@ abbrev pub IsCommand : Command → Type 0
 IsCommand (SampleQuartic size) = IsQuarticSize size
 IsCommand (SampleEulerian profile) = IsProfile profile
 IsCommand (DrawQuartic size seed count) = IsQuarticSize size × AreDrawNumbers seed count
+IsCommand (DrawEulerian profile seed count) = IsProfile profile × AreDrawNumbers seed count
 IsCommand CloseEulerian = ⊤
 IsCommand Canon = ⊤
 IsCommand CheckGeneral = ⊤
@@ -50,6 +52,7 @@ reads CheckEulerian = true
 reads (SampleQuartic size) = true
 reads (SampleEulerian profile) = true
 reads (DrawQuartic size seed count) = false
+reads (DrawEulerian profile seed count) = false
 
 -- whether the command writes its answer record by record, and not in one piece
 abbrev pub writes_records : Command → Bool
@@ -61,6 +64,7 @@ writes_records CheckEulerian = false
 writes_records (SampleQuartic size) = false
 writes_records (SampleEulerian profile) = false
 writes_records (DrawQuartic size seed count) = true
+writes_records (DrawEulerian profile seed count) = true
 
 -- the first k words begin the words of some command
 pub record Begins (words : List (List ℕ)) (k : ℕ) : Type 0 where

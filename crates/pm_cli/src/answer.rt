@@ -28,5 +28,6 @@ pub(crate) fn answer(alloc: Global, command: &Command, bytes: &[u8]) -> Result<V
         Command::SampleQuartic { size } => sample::<Quartic>(alloc, size, bytes),
         Command::SampleEulerian { profile } => sample::<Eulerian>(alloc, profile, bytes),
         Command::DrawQuartic { .. } => unreachable!(),
+        Command::DrawEulerian { .. } => unreachable!(),
     }
 }

@@ -10,7 +10,7 @@ use crate::answer::answer;
 use crate::draw::draw;
 use crate::refusal::{Limit, Refusal, Stop};
 use crate::words::Command;
-use pm_euler::Quartic;
+use pm_euler::{Eulerian, Quartic};
 use pm_io::{Failed, MAX_BYTES, ReadRefusal, Sink, Source, read_all};
 use std::alloc::Global;
 
@@ -65,8 +65,16 @@ fn perform<S: Source, O: Sink>(
         Ok(Err(matched)) => return Err(Stop::Refused(Refusal::Usage { matched })),
         Err(_) => return Err(Stop::Memory),
     };
-    if let Command::DrawQuartic { size, seed, count } = command {
-        return draw::<Quartic, O>(alloc, &size, seed, count, out);
+    match &command {
+        Command::DrawQuartic { size, seed, count } => {
+            return draw::<Quartic, O>(alloc, size, *seed, *count, out);
+        }
+        Command::DrawEulerian {
+            profile,
+            seed,
+            count,
+        } => return draw::<Eulerian, O>(alloc, profile, *seed, *count, out),
+        _ => {}
     }
     let bytes = match read_input(alloc, input) {
         Ok(bytes) => bytes,

@@ -67,11 +67,25 @@ pub enum Command {
     /// `check eulerian`: the same of a map whose vertices have even degrees.
     CheckEulerian,
     /// `sample quartic SIZE`: answers the quartic map and the residue of a list of choices.
-    SampleQuartic { size: u32 },
+    SampleQuartic {
+        size: u32,
+    },
     /// `sample eulerian SIZE`: the same of a map whose vertices have the degrees of the profile.
-    SampleEulerian { profile: Profile },
+    SampleEulerian {
+        profile: Profile,
+    },
     /// `draw quartic SIZE SEED COUNT`: draws lists of choices and answers each with its quartic map and residue.
-    DrawQuartic { size: u32, seed: u64, count: u64 },
+    DrawQuartic {
+        size: u32,
+        seed: u64,
+        count: u64,
+    },
+    /// `draw eulerian SIZE SEED COUNT`: the same of maps whose vertices have the degrees of the profile.
+    DrawEulerian {
+        profile: Profile,
+        seed: u64,
+        count: u64,
+    },
 }
 
 impl Command {
@@ -101,7 +115,7 @@ impl Command {
             return Command::of_sample(alloc, words);
         }
         if is_word(&words[0], "draw") {
-            return Ok(Command::of_draw(words));
+            return Command::of_draw(alloc, words);
         }
         Ok(Err(0))
     }
@@ -208,13 +222,27 @@ impl Command {
     }
 
     // The same of words that begin with `draw`.
-    fn of_draw(words: &[String]) -> Result<Command, u32>
+    fn of_draw(alloc: Global, words: &[String]) -> Result<Result<Command, u32>, AllocError>
         requires { take 1 (map string_bytes words.now) ≡ codes "draw" ∷ [] }
+        ensures { IfOk result (λ found. MatchResult found (Spells (map string_bytes words.now)) (IsNoCommand (map string_bytes words.now))) }
+    {
+        if words.len() == 1 {
+            return Ok(Err(1));
+        }
+        if is_word(&words[1], "quartic") {
+            return Ok(Command::of_draw_quartic(words));
+        }
+        if is_word(&words[1], "eulerian") {
+            return Command::of_draw_eulerian(alloc, words);
+        }
+        Ok(Err(1))
+    }
+
+    // The same of words that begin with `draw quartic`.
+    fn of_draw_quartic(words: &[String]) -> Result<Command, u32>
+        requires { take 2 (map string_bytes words.now) ≡ codes "draw" ∷ codes "quartic" ∷ [] }
         ensures { MatchResult result (Spells (map string_bytes words.now)) (IsNoCommand (map string_bytes words.now)) }
     {
-        if words.len() == 1 || !is_word(&words[1], "quartic") {
-            return Err(1);
-        }
         if words.len() == 2 {
             return Err(2);
         }
@@ -224,6 +252,27 @@ impl Command {
         match Command::draw_numbers(words) {
             Ok((seed, count)) => Ok(Command::DrawQuartic { size, seed, count }),
             Err(matched) => Err(matched),
+        }
+    }
+
+    // The same of words that begin with `draw eulerian`.
+    fn of_draw_eulerian(alloc: Global, words: &[String]) -> Result<Result<Command, u32>, AllocError>
+        requires { take 2 (map string_bytes words.now) ≡ codes "draw" ∷ codes "eulerian" ∷ [] }
+        ensures { IfOk result (λ found. MatchResult found (Spells (map string_bytes words.now)) (IsNoCommand (map string_bytes words.now))) }
+    {
+        if words.len() == 2 {
+            return Ok(Err(2));
+        }
+        let Some(profile) = read_profile(alloc, words[2].as_str())? else {
+            return Ok(Err(2));
+        };
+        match Command::draw_numbers(words) {
+            Ok((seed, count)) => Ok(Ok(Command::DrawEulerian {
+                profile,
+                seed,
+                count,
+            })),
+            Err(matched) => Ok(Err(matched)),
         }
     }
 
