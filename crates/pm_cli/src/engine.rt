@@ -135,7 +135,7 @@ fn write_line<E: Sink>(err: &mut E, line: &[u8])
 /// All input is read before the first write; a command that draws reads nothing, and writes record by record. The
 /// statuses are 0 for an answer; 2 for words that are no command; 3, 4, 6, 7 and 12 for a file that is refused by its text,
 /// its list, its map, a limit or the tree's rules; 5 where `input` failed, 8 where `out` failed and 9 where memory was
-/// wanting. A failing `err` changes no status.
+/// wanting, which may show before anything is read where a word spells a profile. A failing `err` changes no status.
 pub fn run<S: Source, O: Sink, E: Sink>(
     alloc: Global,
     words: &[String],

@@ -24,4 +24,6 @@ pub use words::{Command, MAX_RECORDS};
 #[cfg(test)]
 mod draw_tests;
 #[cfg(test)]
+mod eulerian_tests;
+#[cfg(test)]
 mod tests;

@@ -42,6 +42,16 @@ pub(crate) fn run_on(
     for word in line.split_whitespace() {
         words.push(String::from_str(alloc, word)?)?;
     }
+    run_words(rt, alloc, &words, bytes, faults)
+}
+
+pub(crate) fn run_words(
+    rt: &impl Abort,
+    alloc: Global,
+    words: &[String],
+    bytes: &[u8],
+    faults: Faults,
+) -> Result<Run, AllocError> {
     assert!(rt; words.len() < 100);
     let mut input = MemSource::new(
         Vec::from_slice(alloc, bytes)?,
@@ -50,7 +60,7 @@ pub(crate) fn run_on(
     );
     let mut out = MemSink::new(alloc, faults.room, faults.part, vec![in alloc; faults.out]?)?;
     let mut err = MemSink::new(alloc, 1000, 0, vec![in alloc; faults.err]?)?;
-    let status = run(alloc, &words, &mut input, &mut out, &mut err);
+    let status = run(alloc, words, &mut input, &mut out, &mut err);
     Ok(Run { status, out, err })
 }
 
