@@ -104,31 +104,64 @@ fn fewer_records_are_a_front(rt: HostRuntime) -> Result<(), Fail> {
     Ok(())
 }
 
+#[test]
+fn draws_maps_of_given_degrees(rt: HostRuntime) -> Result<(), Fail> {
+    let want = b"choices 0 2 0 0 0 2 1\nmap 3 0\nv 0 2\nv 1 3 4 5\nend\nresidue 2 0 0 0 0 1\n\
+choices 2 1 0 0 0 1 1\nmap 3 0\nv 0 2\nv 1 3 4 5\nend\nresidue 1 0 0 1 0 2\n";
+    let run = run_on(&rt, rt.alloc(), "draw eulerian 2:1,4:1 7 2", b"", NONE)?;
+    assert_eq!(rt; run.status, 0);
+    assert_eq!(rt; run.out.bytes(), want.as_slice());
+    for (line, want) in [
+        ("draw eulerian", b"planarmap: usage 2\n".as_slice()),
+        ("draw eulerian 3:1 7 1", b"planarmap: usage 2\n".as_slice()),
+        ("draw eulerian 2:1", b"planarmap: usage 3\n".as_slice()),
+        ("draw eulerian 2:1 7 0", b"planarmap: usage 4\n".as_slice()),
+        (
+            "draw eulerian 2:1 7 1 1",
+            b"planarmap: usage 5\n".as_slice(),
+        ),
+    ] {
+        let run = run_on(&rt, rt.alloc(), line, b"", NONE)?;
+        assert_eq!(rt; run.status, 2, "at {line}");
+        assert_eq!(rt; run.err.bytes(), want);
+    }
+    Ok(())
+}
+
 // The line of choices of each record, given to `sample`, gives the rest of the record.
 #[test]
 fn records_are_sampled(rt: HostRuntime) -> Result<(), Fail> {
+    for (draw, sample, records) in [
+        ("draw quartic 1000 7 3", "sample quartic 1000", 3),
+        (
+            "draw eulerian 2:300,4:300,6:100 7 1",
+            "sample eulerian 2:300,4:300,6:100",
+            1,
+        ),
+    ] {
+        sample_each(&rt, draw, sample, records)?;
+    }
+    Ok(())
+}
+
+// Draws so many records, and samples the choices of each.
+fn sample_each(rt: &HostRuntime, draw: &str, sample: &str, records: u32) -> Result<(), Fail> {
     let roomy = Faults {
         room: 1_000_000,
         ..NONE
     };
-    let drawn = run_on(&rt, rt.alloc(), "draw quartic 1000 7 3", b"", roomy)?;
+    let drawn = run_on(rt, rt.alloc(), draw, b"", roomy)?;
     assert_eq!(rt; drawn.status, 0);
     let mut text = std::str::from_utf8(drawn.out.bytes())?;
-    for _ in 0..3 {
-        let (_, record) = text.split_once("choices ").expect(&rt, "a record");
-        let (choices, after) = record.split_once('\n').expect(&rt, "a line");
+    for _ in 0..records {
+        let (_, record) = text.split_once("choices ").expect(rt, "a record");
+        let (choices, after) = record.split_once('\n').expect(rt, "a line");
         let rest = match after.split_once("choices ") {
             Some((rest, _)) => rest,
             None => after,
         };
         let file = format!(in rt.alloc(); "choices {choices}\n")?;
-        let sampled = run_on(
-            &rt,
-            rt.alloc(),
-            "sample quartic 1000",
-            file.as_bytes(),
-            roomy,
-        )?;
+        let sampled = run_on(rt, rt.alloc(), sample, file.as_bytes(), roomy)?;
         assert_eq!(rt; sampled.status, 0);
         assert_eq!(rt; sampled.out.bytes(), rest.as_bytes());
         text = after;
