@@ -1,6 +1,8 @@
 //! Runs that draw. The bytes were worked out apart from the code.
 use crate::beginning_is_front;
 use crate::tests::{Faults, NONE, run_on};
+use std::alloc::Global;
+use std::process::Abort;
 use std::test::Fail;
 
 const TWO_RECORDS: &[u8] = b"choices 0 2 0\nmap 2 0\nv 0 1 2 3\nend\nresidue 2 0 0\n\
@@ -139,18 +141,24 @@ fn records_are_sampled(rt: HostRuntime) -> Result<(), Fail> {
             1,
         ),
     ] {
-        sample_each(&rt, draw, sample, records)?;
+        sample_each(&rt, rt.alloc(), draw, sample, records)?;
     }
     Ok(())
 }
 
 // Draws so many records, and samples the choices of each.
-fn sample_each(rt: &HostRuntime, draw: &str, sample: &str, records: u32) -> Result<(), Fail> {
+fn sample_each(
+    rt: &impl Abort,
+    alloc: Global,
+    draw: &str,
+    sample: &str,
+    records: u32,
+) -> Result<(), Fail> {
     let roomy = Faults {
         room: 1_000_000,
         ..NONE
     };
-    let drawn = run_on(rt, rt.alloc(), draw, b"", roomy)?;
+    let drawn = run_on(rt, alloc, draw, b"", roomy)?;
     assert_eq!(rt; drawn.status, 0);
     let mut text = std::str::from_utf8(drawn.out.bytes())?;
     for _ in 0..records {
@@ -160,8 +168,8 @@ fn sample_each(rt: &HostRuntime, draw: &str, sample: &str, records: u32) -> Resu
             Some((rest, _)) => rest,
             None => after,
         };
-        let file = format!(in rt.alloc(); "choices {choices}\n")?;
-        let sampled = run_on(rt, rt.alloc(), sample, file.as_bytes(), roomy)?;
+        let file = format!(in alloc; "choices {choices}\n")?;
+        let sampled = run_on(rt, alloc, sample, file.as_bytes(), roomy)?;
         assert_eq!(rt; sampled.status, 0);
         assert_eq!(rt; sampled.out.bytes(), rest.as_bytes());
         text = after;
