@@ -1,4 +1,5 @@
 pub mod CanonLemmas
+pub mod ExistenceLemmas
 pub mod KeptLemmas
 pub mod MeetingLemmas
 pub mod MentionLemmas

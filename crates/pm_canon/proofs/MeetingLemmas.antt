@@ -12,7 +12,7 @@ use Rattle.pm_map.proofs.UniqueMeeting.{vertex_begins}
 use Rattle.pm_map.proofs.WholeMeeting.{meeting_list_is_whole}
 use Rattle.pm_canon.specs.Kept.{MarksDarts, IsKept, AppendsVertex, IsMeeting, IsMeetingOrder}
 
-none_stands : (d : ℕ) → Stands [] d → ⊥
+pub none_stands : (d : ℕ) → Stands [] d → ⊥
 none_stands d s = let within : s.0 < 0 = s.1.within in omega arith
 
 false_stays : (n d : ℕ) → get_or (replicate n false) d false ≡ false

@@ -6,9 +6,11 @@ ghost use Rattle.pm_map.specs.Canonical.{IsCanonicalOf};
 ghost use Rattle.pm_map.specs.Rotation.{structure_of};
 ghost use Rattle.pm_map.specs.Structure.{Same};
 
+mod laws;
 mod meeting;
 mod naming;
 
+pub use laws::canonical_exists;
 pub use meeting::meeting_list;
 use pm_map::RootedMap;
 use std::alloc::{AllocError, Global};

@@ -1,0 +1,9 @@
+-- The clauses are the laws of canonical maps.
+use Rattle.pm_canon.proofs.ExistenceLemmas.{canonical_map_exists, meeting_list_exists}
+use Rattle.pm_canon.proofs.laws.canonical_exists.Goals as goal
+
+pub returns-clause-canonical : goal.returns-clause-canonical
+returns-clause-canonical c = canonical_map_exists
+
+pub returns-clause-met : goal.returns-clause-met
+returns-clause-met c = meeting_list_exists
