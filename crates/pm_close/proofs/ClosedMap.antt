@@ -72,12 +72,32 @@ is_made places across lent_across twins lent_twins darts lent_darts sigma found 
   rotated = rotated;
 }
 
+-- where the places are laid out, a list with the dart after each dart is the closure
+pub rotation_closes : (places sigma : List ℕ) (across t : ℕ → ℕ) → IsLaidOut places across t → length sigma ≡ length places
+    → ((p : ℕ) → p < length places → slice_index sigma (dart_of t p) ≡ dart_of t (suc (across p) % length places)) → 0 < length places
+    → IsClosed places (record { sigma = sigma; root = 0 })
+unfolding laid_out
+rotation_closes places sigma across t layout all_places next some = record {
+  closure = laid_out places across t;
+  is_closure = laid_out_closes places across t layout;
+  carries = carried places sigma across t layout all_places next some;
+} where
+  carried : (places sigma : List ℕ) (across t : ℕ → ℕ) → IsLaidOut places across t → length sigma ≡ length places
+      → ((p : ℕ) → p < length places → slice_index sigma (dart_of t p) ≡ dart_of t (suc (across p) % length places)) → 0 < length places
+      → CarriesTo (dart_of t) (laid_out places across t) (structure_of (record { sigma = sigma; root = 0 }))
+  carried places sigma across t layout all_places next some =
+      let twinning = laid_out_twins places across t layout in
+      record {
+        darts = sym all_places;
+        renumbers = dart_of_permutes (length places) t twinning;
+        next = λ p l. sym (next p l);
+        twin = λ p l. dart_of-twin (length places) t twinning p l;
+        root = λ l. dart_of-root t (λ e. twins_apart places 0 (t 0) (layout.are_twins 0 some) (sym e));
+      }
+
 module _ (places across twins darts sigma : List ℕ) (found : Pairs) (made : IsMade places across twins darts sigma found) where
   layout : IsLaidOut places (slice_index across) (slice_index twins)
   layout = lists_lay_out places across twins found made.bracketing made.pairing made.are_twins
-
-  twinning : IsTwinning (length places) (slice_index twins)
-  twinning = laid_out_twins places (slice_index across) (slice_index twins) layout
 
   all_places : length sigma ≡ length places
   all_places = made.as_long ∙ made.as_many_darts ∙ made.are_twins.as_long
@@ -85,36 +105,17 @@ module _ (places across twins darts sigma : List ℕ) (found : Pairs) (made : Is
   dart_is : (p : ℕ) → p < length places → slice_index darts p ≡ dart_of (slice_index twins) p
   dart_is p l = made.darts_are p (omega (arith, made.are_twins.as_long))
 
-  -- the closure on places is carried to the map
-  map_is_carried : 0 < length places → CarriesTo (dart_of (slice_index twins)) (laid_out places (slice_index across) (slice_index twins)) (structure_of (record { sigma = sigma; root = 0 }))
-  unfolding laid_out
-  map_is_carried some = record {
-    darts = sym all_places;
-    renumbers = dart_of_permutes (length places) (slice_index twins) twinning;
-    next = next;
-    twin = λ p l. dart_of-twin (length places) (slice_index twins) twinning p l;
-    root = λ l. dart_of-root (slice_index twins) (λ e. twins_apart places 0 (slice_index twins 0) (made.are_twins.each 0 some) (sym e));
-  } where
-    next : (p : ℕ) → p < length places → dart_of (slice_index twins) (suc (slice_index across p) % length places) ≡ slice_index sigma (dart_of (slice_index twins) p)
+  -- the map is the closure
+  pub made_is_closed : 0 < length places → IsClosed places (record { sigma = sigma; root = 0 })
+  made_is_closed some = rotation_closes places sigma (slice_index across) (slice_index twins) layout all_places next some where
+    next : (p : ℕ) → p < length places → slice_index sigma (dart_of (slice_index twins) p) ≡ dart_of (slice_index twins) (suc (slice_index across p) % length places)
     next p l =
         let count : length darts ≡ length places = made.as_many_darts ∙ made.are_twins.as_long in
         let some : 0 < length places = omega arith in
         let after : suc (slice_index across p) % length places < length places = omega arith in
-        let step = made.rotated p (omega (arith, count)) in
-        let here : slice_index sigma (slice_index darts p) ≡ slice_index sigma (dart_of (slice_index twins) p) = ap (slice_index sigma) (dart_is p l) in
-        sym (dart_is (suc (slice_index across p) % length places) after)
-        ∙ ap (λ (n : ℕ). slice_index darts (suc (slice_index across p) % n)) (sym count) ∙ sym step ∙ here
-
-  -- the map is the closure
-  pub made_is_closed : 0 < length places → IsClosed places (record { sigma = sigma; root = 0 })
-  unfolding laid_out
-  made_is_closed some = record {
-    closure = laid_out places (slice_index across) (slice_index twins);
-    is_closure = laid_out_closes places (slice_index across) (slice_index twins) layout;
-    carries = carried;
-  } where
-    carried : CarriesTo (dart_of (slice_index twins)) (laid_out places (slice_index across) (slice_index twins)) (structure_of (record { sigma = sigma; root = 0 }))
-    carried = map_is_carried some
+        ap (slice_index sigma) (sym (dart_is p l)) ∙ made.rotated p (omega (arith, count))
+        ∙ ap (λ (n : ℕ). slice_index darts (suc (slice_index across p) % n)) count
+        ∙ dart_is (suc (slice_index across p) % length places) after
 
   -- the levels that are written at the darts of the places are those of the closure
   pub made_levels : (letters levels : List ℕ) → places ≡ contour letters → AreLevelsAt letters darts levels → AreLevels places levels

@@ -12,4 +12,5 @@ pub mod OneClosure
 pub mod PlaneClosure
 pub mod PlaneMap
 pub mod RootedClosure
+pub mod SomeClosure
 pub mod TwinLemmas
