@@ -7,7 +7,6 @@ use Rattle.std.proofs.lemmas.List.FromFn.{get_or-map-range_with_len, length-map-
 use Rattle.pm_perm.proofs.InverseLemmas.{place_of, place_of-of_value}
 use Rattle.pm_perm.specs.Permutation.{IsPermutationBelow}
 use Rattle.pm_trees.specs.Word.{contour, IsInOrder, IsBracketing}
-use Rattle.pm_trees.specs.Blossoming.{IsBlossoming}
 use Rattle.pm_trees.proofs.Balance.{two_more_leaves}
 use Rattle.pm_trees.proofs.Bracketed.{bracketing_exists}
 use Rattle.pm_trees.proofs.Stack.{letters_at}
@@ -17,7 +16,7 @@ use Rattle.pm_match.specs.Pairing.{Pairs, IsPairing}
 use Rattle.pm_match.proofs.Paired.{pairing_exists}
 use Rattle.pm_map.specs.Rotation.{RotationSystem}
 use Rattle.pm_close.specs.Closure.{AreTwins, edge_down, edge_up, pair_bud, pair_leaf, free_leaves, IsClosed, dart_of}
-use Rattle.pm_close.specs.Laws.{EachBalancedTreeCloses}
+use Rattle.pm_close.specs.Laws.{EachTreeCloses}
 use Rattle.pm_close.proofs.ClosureLemmas.{IsLaidOut, laid_out_twins, bracketing_across}
 use Rattle.pm_close.proofs.DartLemmas.{dart_of_permutes}
 use Rattle.pm_close.proofs.JoiningSteps.{one_partner}
@@ -70,8 +69,8 @@ laid_out_closed places across t layout some = (
       ∙ ap (λ (q : ℕ). dart_of t (suc (across q) % n)) (place_of-of_value (dart_of t) n p permutes l)
 
 -- a blossoming tree has a closure
-pub some_closure : (word : List ℕ) → IsBlossoming word → (map : RotationSystem) × IsClosed (contour word) map
-some_closure word tree =
+pub each_tree_closes : EachTreeCloses
+each_tree_closes word tree =
     let bracketing = bracketing_exists word tree.in_order in
     let pairing = pairing_exists word (two_more_leaves word tree) in
     let twins = twin_of word bracketing.0 pairing.0 tree.in_order bracketing.1 pairing.1 in
@@ -81,6 +80,3 @@ some_closure word tree =
       are_twins = λ p l. (twins p).1 l;
     } in
     laid_out_closed (contour word) (slice_index bracketing.0) (λ p. (twins p).0) layout (omega arith)
-
-pub balanced_tree_closes : EachBalancedTreeCloses
-balanced_tree_closes word tree balanced = some_closure word tree

@@ -1,4 +1,4 @@
--- What holds of closures: a tree has no two, a balanced tree has one, and that is a rooted map.
+-- What holds of closures: a tree has one and no other, and that of a balanced tree is a rooted map.
 use Rattle.std.specs.Prelude.{◌≡◌, ℕ, List}
 use Rattle.pm_trees.specs.Word.{contour}
 use Rattle.pm_trees.specs.Blossoming.{IsBlossoming}
@@ -10,9 +10,9 @@ use Rattle.pm_close.specs.Closure.{IsClosed}
 abbrev pub HasOneClosure : Type 0
 HasOneClosure = (word : List ℕ) (one other : RotationSystem) → IsBlossoming word → IsClosed (contour word) one → IsClosed (contour word) other → one ≡ other
 
--- a balanced tree has a closure
-abbrev pub EachBalancedTreeCloses : Type 0
-EachBalancedTreeCloses = (word : List ℕ) → IsBlossoming word → IsBalanced (contour word) → (map : RotationSystem) × IsClosed (contour word) map
+-- a blossoming tree has a closure
+abbrev pub EachTreeCloses : Type 0
+EachTreeCloses = (word : List ℕ) → IsBlossoming word → (map : RotationSystem) × IsClosed (contour word) map
 
 -- the closure of a balanced tree is a rooted map, so it is plane
 abbrev pub ClosureIsRooted : Type 0

@@ -1,12 +1,12 @@
 //! Laws of closures, for the crates above.
-ghost use Rattle.pm_close.specs.Laws.{HasOneClosure, EachBalancedTreeCloses, ClosureIsRooted};
+ghost use Rattle.pm_close.specs.Laws.{HasOneClosure, EachTreeCloses, ClosureIsRooted};
 ghost use Rattle.pm_close.specs.NodeDegrees.{DegreesAreKept};
 ghost use Rattle.pm_close.specs.Nodes.{NodesAreVertices};
 
-/// A law: a blossoming tree has no two closures, a balanced one has one, and that is a rooted map, so it is plane.
+/// A law: a blossoming tree has one closure, and no other, and that of a balanced tree is a rooted map, so it is plane.
 pub fn closure_is_unique()
     ensures one { HasOneClosure }
-    ensures exists { EachBalancedTreeCloses }
+    ensures exists { EachTreeCloses }
     ensures rooted { ClosureIsRooted }
 {}
 
