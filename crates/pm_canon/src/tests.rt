@@ -1,5 +1,5 @@
 //! Worked values.
-use crate::{canon, same};
+use crate::{canon, meeting_list, same};
 use pm_map::RootedMap;
 use std::test::Fail;
 
@@ -41,5 +41,23 @@ fn no_dart(rt: HostRuntime) -> Result<(), Fail> {
     let canonical = canon(rt.alloc(), &none)?;
     assert_eq!(rt; canonical.edges(), 0);
     assert!(rt; same(rt.alloc(), &none, &canonical)?);
+    Ok(())
+}
+
+#[test]
+fn maps_with_other_roots(rt: HostRuntime) -> Result<(), Fail> {
+    let sigma = Vec::from_slice(rt.alloc(), &[3, 1, 2, 0])?;
+    let answer = RootedMap::from_parts(rt.alloc(), sigma, 3);
+    assert!(rt; answer.is_ok());
+    let Ok(middle) = answer else { return Ok(()) };
+    let darts = meeting_list(rt.alloc(), middle.sigma(), middle.root())?;
+    assert_eq!(rt; darts.as_slice(), [3, 0, 2, 1].as_slice());
+    let sigma = Vec::from_slice(rt.alloc(), &[3, 1, 2, 0])?;
+    let answer = RootedMap::from_parts(rt.alloc(), sigma, 1);
+    assert!(rt; answer.is_ok());
+    let Ok(end) = answer else { return Ok(()) };
+    let darts = meeting_list(rt.alloc(), end.sigma(), end.root())?;
+    assert_eq!(rt; darts.as_slice(), [1, 0, 3, 2].as_slice());
+    assert!(rt; !same(rt.alloc(), &middle, &end)?);
     Ok(())
 }

@@ -26,4 +26,6 @@ mod draw_tests;
 #[cfg(test)]
 mod eulerian_tests;
 #[cfg(test)]
+mod limit_tests;
+#[cfg(test)]
 mod tests;

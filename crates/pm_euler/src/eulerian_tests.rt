@@ -1,47 +1,53 @@
 //! Worked samples of maps with given even degrees.
+ghost use Rattle.pm_trees.specs.Pairs.{IsProfile};
+
 use crate::tests::{all_samples, beginnings};
 use crate::{Eulerian, MapClass, SampleRefusal};
 use pm_lists::ListRefusal;
 use pm_map::{ClassRefusal, RootedMap};
 use pm_trees::Profile;
+use std::alloc::Global;
+use std::process::Abort;
 use std::test::Fail;
 
-#[test]
-fn all_lists_of_one_vertex_of_degree_two(rt: HostRuntime) -> Result<(), Fail> {
-    let profile = Profile::of_pairs(rt.alloc(), &[(2, 1)])?;
-    let texts = all_samples::<Eulerian>(rt.alloc(), &profile, 4)?;
-    assert_eq!(rt; beginnings(&texts, b"10"), 4);
-    for text in &texts {
-        assert_eq!(rt; beginnings(&texts, text), 1);
-    }
-    Ok(())
-}
+// The rotations of the canonical maps of a profile, a digit for each dart.
+const ONE_LOOP: [&[u8]; 1] = [b"10"];
 
-#[test]
-fn all_lists_of_one_vertex_of_degree_four(rt: HostRuntime) -> Result<(), Fail> {
-    let profile = Profile::of_pairs(rt.alloc(), &[(4, 1)])?;
-    let texts = all_samples::<Eulerian>(rt.alloc(), &profile, 36)?;
-    assert_eq!(rt; beginnings(&texts, b"1230"), 18);
-    assert_eq!(rt; beginnings(&texts, b"2031"), 18);
-    for text in &texts {
-        assert_eq!(rt; beginnings(&texts, text), 1);
-    }
-    Ok(())
-}
+const TWO_LOOPS: [&[u8]; 2] = [b"1230", b"2031"];
 
-#[test]
-fn all_lists_of_two_degrees(rt: HostRuntime) -> Result<(), Fail> {
-    let profile = Profile::of_pairs(rt.alloc(), &[(2, 1), (4, 1)])?;
-    let texts = all_samples::<Eulerian>(rt.alloc(), &profile, 144)?;
-    let rotations: [&[u8]; 6] = [
-        b"124503", b"204513", b"230451", b"234150", b"240153", b"253401",
-    ];
+const TWO_DEGREES: [&[u8]; 6] = [
+    b"124503", b"204513", b"230451", b"234150", b"240153", b"253401",
+];
+
+// Each map comes from as many lists, no list gives a map and a residue that another gives, and there are so many lists.
+fn each_map_as_often(
+    rt: &impl Abort,
+    alloc: Global,
+    profile: &Profile,
+    rotations: &[&[u8]],
+    each: usize,
+    lists: u64,
+) -> Result<(), SampleRefusal>
+    requires { IsProfile profile.now }
+{
+    let texts = all_samples::<Eulerian>(alloc, profile, lists)?;
     for rotation in rotations {
-        assert_eq!(rt; beginnings(&texts, rotation), 24);
+        assert_eq!(rt; beginnings(&texts, rotation), each);
     }
     for text in &texts {
         assert_eq!(rt; beginnings(&texts, text), 1);
     }
+    Ok(())
+}
+
+#[test]
+fn all_lists(rt: HostRuntime) -> Result<(), Fail> {
+    let two = Profile::of_pairs(rt.alloc(), &[(2, 1)])?;
+    each_map_as_often(&rt, rt.alloc(), &two, &ONE_LOOP, 4, 4)?;
+    let four = Profile::of_pairs(rt.alloc(), &[(4, 1)])?;
+    each_map_as_often(&rt, rt.alloc(), &four, &TWO_LOOPS, 18, 36)?;
+    let both = Profile::of_pairs(rt.alloc(), &[(2, 1), (4, 1)])?;
+    each_map_as_often(&rt, rt.alloc(), &both, &TWO_DEGREES, 24, 144)?;
     Ok(())
 }
 
