@@ -159,19 +159,19 @@ pub IsLowestTo-none : (word : List ℤ) → 0 < length word → IsLowestTo word 
 IsLowestTo-none word filled = record { below = λ place inside. absurd (omega arith); reached = (0, filled, height-none word) }
 
 -- a lower sum takes the place of the lowest
-pub IsLowestTo-lower : (word : List ℤ) (front : ℕ) (lowest sum : ℤ) → IsLowestTo word front lowest → IsSummedTo word front sum → front < length word → sum <ℤ lowest → IsLowestTo word (front + 1) sum
-IsLowestTo-lower word front lowest sum lowest_to summed inside lower = record {
+pub IsLowestTo-lower : (word : List ℤ) (front : ℕ) (lowest sum : ℤ) → IsLowestTo word front lowest → sum ≡ height word front → front < length word → sum <ℤ lowest → IsLowestTo word (front + 1) sum
+IsLowestTo-lower word front lowest sum lowest_to sum_is inside lower = record {
   below = λ place place_inside. elim (cases_eq place front) [
-    | inl here ↦ omega (arith, ints, ap (height word) here, summed.is)
+    | inl here ↦ omega (arith, ints, ap (height word) here, sum_is)
     | inr other ↦ omega (arith, ints, lowest_to.below place (omega (arith, other)), lower)
   ];
-  reached = (front, inside, sym summed.is);
+  reached = (front, inside, sym sum_is);
 }
 
-pub IsLowestTo-same : (word : List ℤ) (front : ℕ) (lowest sum : ℤ) → IsLowestTo word front lowest → IsSummedTo word front sum → lowest ≤ℤ sum → IsLowestTo word (front + 1) lowest
-IsLowestTo-same word front lowest sum lowest_to summed higher = record {
+pub IsLowestTo-same : (word : List ℤ) (front : ℕ) (lowest sum : ℤ) → IsLowestTo word front lowest → sum ≡ height word front → lowest ≤ℤ sum → IsLowestTo word (front + 1) lowest
+IsLowestTo-same word front lowest sum lowest_to sum_is higher = record {
   below = λ place place_inside. elim (cases_eq place front) [
-    | inl here ↦ omega (arith, ints, ap (height word) here, summed.is, higher)
+    | inl here ↦ omega (arith, ints, ap (height word) here, sum_is, higher)
     | inr other ↦ lowest_to.below place (omega (arith, other))
   ];
   reached = lowest_to.reached;

@@ -1,3 +1,4 @@
 pub mod Heights
 pub mod Records
+pub mod Cycle
 pub mod PlaneWords

@@ -7,7 +7,7 @@ use Rattle.std.proofs.lemmas.Int.{ints}
 use Rattle.std.proofs.lemmas.Bool.{cases_lt, cases_eq}
 use Rattle.std.proofs.lemmas.List.{get_or_append_left, get_or_push, get_or-append_right, get_or-drop, get_or-take, length-drop}
 use Rattle.pm_words.specs.Word.{sum_of, turned, IsWord, IsGoodStarts, IsLowest}
-use Rattle.pm_words.proofs.Heights.{height, height-is, height-none, height-falls, IsLow, IsGoodStart-from_low, IsLow-from_good, IsSummedTo}
+use Rattle.pm_words.proofs.Heights.{height, height-is, height-none, height-falls, IsLow, IsGoodStart-from_low, IsLow-from_good}
 
 -- lower than all before, and below the bound
 pub record IsRecord (word : List ℤ) (bound : ℤ) (place : ℕ) : Type 0 where
@@ -43,19 +43,19 @@ HasRecords-none word bound starts low none = rw none (record {
 })
 
 -- a sum that is below the least is one less
-one_less : (word : List ℤ) (front : ℕ) (least sum : ℤ) → IsWord word → front < length word → ((place : ℕ) → place < front → least ≤ℤ height word place) → IsLeast word front least → IsSummedTo word front sum → sum <ℤ least → sum +ℤ pos 1 ≡ least
-one_less word zero least sum is_word inside below (none_seen start is_one) summed lower = omega (arith, ints, summed.is, height-none word, is_one)
-one_less word zero least sum is_word inside below (seen_at place earlier is) summed lower = absurd (omega arith)
-one_less word (suc front) least sum is_word inside below reached summed lower =
+one_less : (word : List ℤ) (front : ℕ) (least sum : ℤ) → IsWord word → front < length word → ((place : ℕ) → place < front → least ≤ℤ height word place) → IsLeast word front least → sum ≡ height word front → sum <ℤ least → sum +ℤ pos 1 ≡ least
+one_less word zero least sum is_word inside below (none_seen start is_one) sum_is lower = omega (arith, ints, sum_is, height-none word, is_one)
+one_less word zero least sum is_word inside below (seen_at place earlier is) sum_is lower = absurd (omega arith)
+one_less word (suc front) least sum is_word inside below reached sum_is lower =
     let e : front + 1 ≡ suc front = omega arith in
-    omega (arith, ints, summed.is, height-falls word front is_word (omega arith), ap (height word) e, below front (omega arith), lower)
+    omega (arith, ints, sum_is, height-falls word front is_word (omega arith), ap (height word) e, below front (omega arith), lower)
 
-before_front : (word : List ℤ) (front : ℕ) (least sum : ℤ) → ((place : ℕ) → place < front → least ≤ℤ height word place) → IsSummedTo word front sum → sum <ℤ least → (earlier : ℕ) → earlier < front → height word front <ℤ height word earlier
-before_front word front least sum below summed lower earlier inside = omega (arith, ints, summed.is, below earlier inside)
+before_front : (word : List ℤ) (front : ℕ) (least sum : ℤ) → ((place : ℕ) → place < front → least ≤ℤ height word place) → sum ≡ height word front → sum <ℤ least → (earlier : ℕ) → earlier < front → height word front <ℤ height word earlier
+before_front word front least sum below sum_is lower earlier inside = omega (arith, ints, sum_is, below earlier inside)
 
-lower_below : (word : List ℤ) (front : ℕ) (least sum : ℤ) → ((place : ℕ) → place < front → least ≤ℤ height word place) → IsSummedTo word front sum → sum <ℤ least → (place : ℕ) → place < front + 1 → sum ≤ℤ height word place
-lower_below word front least sum below summed lower place inside = elim (cases_eq place front) [
-  | inl here ↦ omega (arith, ints, ap (height word) here, summed.is)
+lower_below : (word : List ℤ) (front : ℕ) (least sum : ℤ) → ((place : ℕ) → place < front → least ≤ℤ height word place) → sum ≡ height word front → sum <ℤ least → (place : ℕ) → place < front + 1 → sum ≤ℤ height word place
+lower_below word front least sum below sum_is lower place inside = elim (cases_eq place front) [
+  | inl here ↦ omega (arith, ints, ap (height word) here, sum_is)
   | inr other ↦ omega (arith, ints, below place (omega (arith, other)), lower)
 ]
 
@@ -82,16 +82,16 @@ found-push starts front start found =
     (found.0, omega (arith, length-append starts (front ∷ [])), get_or_append_left starts (front ∷ []) 0 found.0 inside ∙ found.2)
 
 -- a new record below the bound
-pub HasRecords-push : (word : List ℤ) (bound : ℤ) (front : ℕ) (least sum : ℤ) (starts : List ℕ) → HasRecords word bound front least starts → IsSummedTo word front sum → IsWord word → front < length word
+pub HasRecords-push : (word : List ℤ) (bound : ℤ) (front : ℕ) (least sum : ℤ) (starts : List ℕ) → HasRecords word bound front least starts → sum ≡ height word front → IsWord word → front < length word
     → sum <ℤ least → sum <ℤ bound → HasRecords word bound (front + 1) sum (starts ++ front ∷ [])
-HasRecords-push word bound front least sum starts has summed is_word inside lower under =
-    let less : sum +ℤ pos 1 ≡ least = one_less word front least sum is_word inside has.below has.reached summed lower in
-    let new : IsRecord word bound front = record { before = before_front word front least sum has.below summed lower; under = omega (arith, ints, summed.is, under) } in
+HasRecords-push word bound front least sum starts has sum_is is_word inside lower under =
+    let less : sum +ℤ pos 1 ≡ least = one_less word front least sum is_word inside has.below has.reached sum_is lower in
+    let new : IsRecord word bound front = record { before = before_front word front least sum has.below sum_is lower; under = omega (arith, ints, sum_is, under) } in
     let long : length (starts ++ front ∷ []) ≡ length starts + 1 = length-append starts (front ∷ []) in
     let many : pos (length starts) +ℤ least ≡ bound = has.as_many (omega (arith, ints)) in
     record {
-      below = lower_below word front least sum has.below summed lower;
-      reached = seen_at front (omega arith) (sym summed.is);
+      below = lower_below word front least sum has.below sum_is lower;
+      reached = seen_at front (omega arith) (sym sum_is);
       rising = rising-push starts front has.rising has.inside;
       inside = each-push (λ start. start < front + 1) starts front (λ place place_inside. omega (arith, has.inside place place_inside)) (omega arith);
       good = each-push (IsRecord word bound) starts front has.good new;
@@ -104,18 +104,18 @@ HasRecords-push word bound front least sum starts has summed is_word inside lowe
     }
 
 -- a new least height that is not below the bound
-pub HasRecords-high : (word : List ℤ) (bound : ℤ) (front : ℕ) (least sum : ℤ) (starts : List ℕ) → HasRecords word bound front least starts → IsSummedTo word front sum → IsWord word → front < length word
+pub HasRecords-high : (word : List ℤ) (bound : ℤ) (front : ℕ) (least sum : ℤ) (starts : List ℕ) → HasRecords word bound front least starts → sum ≡ height word front → IsWord word → front < length word
     → sum <ℤ least → bound ≤ℤ sum → HasRecords word bound (front + 1) sum starts
-HasRecords-high word bound front least sum starts has summed is_word inside lower over =
+HasRecords-high word bound front least sum starts has sum_is is_word inside lower over =
     let none : length starts ≡ 0 = has.none_yet (omega (arith, ints)) in
     record {
-      below = lower_below word front least sum has.below summed lower;
-      reached = seen_at front (omega arith) (sym summed.is);
+      below = lower_below word front least sum has.below sum_is lower;
+      reached = seen_at front (omega arith) (sym sum_is);
       rising = has.rising;
       inside = λ place place_inside. omega (arith, has.inside place place_inside);
       good = has.good;
       all = λ start start_inside is_record. elim (cases_eq start front) [
-        | inl here ↦ absurd (omega (arith, ints, is_record.under, ap (height word) here, summed.is))
+        | inl here ↦ absurd (omega (arith, ints, is_record.under, ap (height word) here, sum_is))
         | inr other ↦ has.all start (omega (arith, other)) is_record
       ];
       none_yet = λ past. none;
@@ -123,26 +123,26 @@ HasRecords-high word bound front least sum starts has summed is_word inside lowe
     }
 
 -- no record: some height before is as low
-not_lower : (word : List ℤ) (bound : ℤ) (front : ℕ) (least sum : ℤ) → IsLeast word front least → IsSummedTo word front sum → least ≤ℤ sum → IsRecord word bound front → ⊥
-not_lower word bound front least sum (none_seen start is_one) summed higher is_record = omega (arith, ints, summed.is, ap (height word) start, height-none word, is_one)
-not_lower word bound front least sum (seen_at place earlier is) summed higher is_record = omega (arith, ints, summed.is, is_record.before place earlier, is)
+not_lower : (word : List ℤ) (bound : ℤ) (front : ℕ) (least sum : ℤ) → IsLeast word front least → sum ≡ height word front → least ≤ℤ sum → IsRecord word bound front → ⊥
+not_lower word bound front least sum (none_seen start is_one) sum_is higher is_record = omega (arith, ints, sum_is, ap (height word) start, height-none word, is_one)
+not_lower word bound front least sum (seen_at place earlier is) sum_is higher is_record = omega (arith, ints, sum_is, is_record.before place earlier, is)
 
-IsLeast-more : (word : List ℤ) (front : ℕ) (least sum : ℤ) → IsLeast word front least → IsSummedTo word front sum → least ≤ℤ sum → IsLeast word (front + 1) least
-IsLeast-more word front least sum (none_seen start is_one) summed higher = absurd (omega (arith, ints, summed.is, ap (height word) start, height-none word, is_one))
-IsLeast-more word front least sum (seen_at place earlier is) summed higher = seen_at place (omega arith) is
+IsLeast-more : (word : List ℤ) (front : ℕ) (least sum : ℤ) → IsLeast word front least → sum ≡ height word front → least ≤ℤ sum → IsLeast word (front + 1) least
+IsLeast-more word front least sum (none_seen start is_one) sum_is higher = absurd (omega (arith, ints, sum_is, ap (height word) start, height-none word, is_one))
+IsLeast-more word front least sum (seen_at place earlier is) sum_is higher = seen_at place (omega arith) is
 
-pub HasRecords-same : (word : List ℤ) (bound : ℤ) (front : ℕ) (least sum : ℤ) (starts : List ℕ) → HasRecords word bound front least starts → IsSummedTo word front sum → least ≤ℤ sum → HasRecords word bound (front + 1) least starts
-HasRecords-same word bound front least sum starts has summed higher = record {
+pub HasRecords-same : (word : List ℤ) (bound : ℤ) (front : ℕ) (least sum : ℤ) (starts : List ℕ) → HasRecords word bound front least starts → sum ≡ height word front → least ≤ℤ sum → HasRecords word bound (front + 1) least starts
+HasRecords-same word bound front least sum starts has sum_is higher = record {
   below = λ place place_inside. elim (cases_eq place front) [
-    | inl here ↦ omega (arith, ints, ap (height word) here, summed.is)
+    | inl here ↦ omega (arith, ints, ap (height word) here, sum_is)
     | inr other ↦ has.below place (omega (arith, other))
   ];
-  reached = IsLeast-more word front least sum has.reached summed higher;
+  reached = IsLeast-more word front least sum has.reached sum_is higher;
   rising = has.rising;
   inside = λ place place_inside. omega (arith, has.inside place place_inside);
   good = has.good;
   all = λ start start_inside is_record. elim (cases_eq start front) [
-    | inl here ↦ let P : ℕ → Type 0 = IsRecord word bound in absurd (not_lower word bound front least sum has.reached summed higher (subst P here is_record))
+    | inl here ↦ let P : ℕ → Type 0 = IsRecord word bound in absurd (not_lower word bound front least sum has.reached sum_is higher (subst P here is_record))
     | inr other ↦ has.all start (omega (arith, other)) is_record
   ];
   none_yet = has.none_yet;

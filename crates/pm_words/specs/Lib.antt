@@ -1,3 +1,4 @@
 pub mod Word
 pub mod Plane
 pub mod PlaneCode
+pub mod Laws

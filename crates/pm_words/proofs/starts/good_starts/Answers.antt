@@ -22,13 +22,13 @@ fronts-preserved c =
       elim c.if-sum-least.branch [
         | then-sum-least+then-sum-bound+in_ok-push w ↦
             rw (w.starts-is, w.least-is, w.in_ok-push.ensures.items)
-            (HasRecords-push _ _ _ _ _ _ c.fronts.invariant.1 c.fronts.invariant.0 c.requires.letters c.fronts-test.true (less_from_test _ _ w.if-sum-least.true) (less_from_test _ _ w.if-sum-bound.true))
+            (HasRecords-push _ _ _ _ _ _ c.fronts.invariant.1 c.fronts.invariant.0.is c.requires.letters c.fronts-test.true (less_from_test _ _ w.if-sum-least.true) (less_from_test _ _ w.if-sum-bound.true))
         | then-sum-least+else-sum-bound w ↦
             rw (w.starts-is, w.least-is)
-            (HasRecords-high _ _ _ _ _ _ c.fronts.invariant.1 c.fronts.invariant.0 c.requires.letters c.fronts-test.true (less_from_test _ _ w.if-sum-least.true) (not_less_from_test _ _ w.if-sum-bound.false))
+            (HasRecords-high _ _ _ _ _ _ c.fronts.invariant.1 c.fronts.invariant.0.is c.requires.letters c.fronts-test.true (less_from_test _ _ w.if-sum-least.true) (not_less_from_test _ _ w.if-sum-bound.false))
         | else-sum-least w ↦
             rw (w.starts-is, w.least-is)
-            (HasRecords-same _ _ _ _ _ _ c.fronts.invariant.1 c.fronts.invariant.0 (not_less_from_test _ _ w.if-sum-least.false))
+            (HasRecords-same _ _ _ _ _ _ c.fronts.invariant.1 c.fronts.invariant.0.is (not_less_from_test _ _ w.if-sum-least.false))
       ],
     )
 

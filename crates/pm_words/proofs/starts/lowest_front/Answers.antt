@@ -13,8 +13,8 @@ fronts-preserved c =
     let fits : SFits w32 (get_or c.args.word.now c.fronts.letter-index (pos 0)) = search rules in (
       IsSummedTo-step _ _ _ _ c.fronts.invariant.0 (c.requires.letters.least _ c.fronts-test.true) c.fronts-test.true c.requires.few fits c.from-sum.ensures,
       elim c.if-sum-lowest.branch [
-        | then-sum-lowest w ↦ rw w.lowest-is (IsLowestTo-lower _ _ _ _ c.fronts.invariant.1 c.fronts.invariant.0 c.fronts-test.true (less_from_test _ _ w.if-sum-lowest.true))
-        | else-sum-lowest w ↦ rw w.lowest-is (IsLowestTo-same _ _ _ _ c.fronts.invariant.1 c.fronts.invariant.0 (not_less_from_test _ _ w.if-sum-lowest.false))
+        | then-sum-lowest w ↦ rw w.lowest-is (IsLowestTo-lower _ _ _ _ c.fronts.invariant.1 c.fronts.invariant.0.is c.fronts-test.true (less_from_test _ _ w.if-sum-lowest.true))
+        | else-sum-lowest w ↦ rw w.lowest-is (IsLowestTo-same _ _ _ _ c.fronts.invariant.1 c.fronts.invariant.0.is (not_less_from_test _ _ w.if-sum-lowest.false))
       ],
     )
 

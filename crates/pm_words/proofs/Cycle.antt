@@ -1,0 +1,72 @@
+-- The cycle lemma: the fronts of a word one after another, as far as its end.
+use Rattle.std.proofs.Common.{◌≡◌, ℕ, zero, suc, ◌+◌, ◌<◌, ◌≤◌, List, [], ◌∷◌, ◌++◌, length, refl, subst, arith, true, false, inl, inr, pos, ◌+ℤ◌, ◌≤ℤ◌, ℤ}
+use Rattle.std.specs.Prelude.{◌<ℤ◌, Bool, ◌⊎◌}
+use lib.Signed.{lt_z}
+use Rattle.pm_words.specs.Laws.{CycleLemma}
+use Rattle.pm_words.specs.Word.{IsWord, IsLowest}
+use Rattle.pm_words.proofs.Heights.{height, IsLowestTo, IsLowestTo-none, IsLowestTo-lower, IsLowestTo-same, IsLowestTo-all, lowest_bound, filled, less_from_test, not_less_from_test}
+use Rattle.pm_words.proofs.Records.{HasRecords, HasRecords-none, HasRecords-push, HasRecords-high, HasRecords-same, HasRecords-starts}
+
+-- of two numbers the first is less, or it isn't
+decided : (first second : ℤ) (test : Bool) → lt_z first second ≡ test → (first <ℤ second) ⊎ (second ≤ℤ first)
+decided first second true is = inl (less_from_test first second is)
+decided first second false is = inr (not_less_from_test first second is)
+
+cases_less : (first second : ℤ) → (first <ℤ second) ⊎ (second ≤ℤ first)
+cases_less first second = decided first second (lt_z first second) refl
+
+-- the lowest height of the first fronts
+lowest_to : (word : List ℤ) → 0 < length word → (front : ℕ) → front ≤ length word → (lowest : ℤ) × IsLowestTo word front lowest
+lowest_to word some zero within = (pos 0, IsLowestTo-none word some)
+lowest_to word some (suc front) within =
+    let before : (lowest : ℤ) × IsLowestTo word front lowest = lowest_to word some front (omega arith) in
+    let more : front + 1 ≡ suc front = omega arith in
+    subst (λ (n : ℕ). (lowest : ℤ) × IsLowestTo word n lowest) more
+    (elim (cases_less (height word front) before.0) [
+      | inl lower ↦ (height word front, IsLowestTo-lower word front before.0 (height word front) before.1 refl (omega arith) lower)
+      | inr higher ↦ (before.0, IsLowestTo-same word front before.0 (height word front) before.1 refl higher)
+    ])
+
+-- the records of the first fronts, with the least height that they reach
+record HaveRecords (word : List ℤ) (bound : ℤ) (front : ℕ) : Type 0 where
+  least : ℤ
+  starts : List ℕ
+  has : HasRecords word bound front least starts
+
+-- each front has its records
+records_to : (word : List ℤ) (bound : ℤ) → IsWord word → bound ≤ℤ pos 1 → (front : ℕ) → front ≤ length word → HaveRecords word bound front
+records_to word bound is_word low zero within = record { least = pos 1; starts = []; has = HasRecords-none word bound [] low refl }
+records_to word bound is_word low (suc front) within =
+    let before : HaveRecords word bound front = records_to word bound is_word low front (omega arith) in
+    let sum : ℤ = height word front in
+    let more : front + 1 ≡ suc front = omega arith in
+    subst (HaveRecords word bound) more
+    (elim (cases_less sum before.least) [
+      | inl lower ↦ elim (cases_less sum bound) [
+        | inl under ↦ record {
+          least = sum;
+          starts = before.starts ++ front ∷ [];
+          has = HasRecords-push word bound front before.least sum before.starts before.has refl is_word (omega arith) lower under;
+        }
+        | inr over ↦ record {
+          least = sum;
+          starts = before.starts;
+          has = HasRecords-high word bound front before.least sum before.starts before.has refl is_word (omega arith) lower over;
+        }
+      ]
+      | inr higher ↦ record {
+        least = before.least;
+        starts = before.starts;
+        has = HasRecords-same word bound front before.least sum before.starts before.has refl higher;
+      }
+    ])
+
+-- a word that sums to -goal has goal good starts: the records below the goal above its lowest height
+pub good_starts_exist : CycleLemma
+good_starts_exist goal word positive is_word sum =
+    let some : 0 < length word = filled word goal positive sum in
+    let lowest : (lowest : ℤ) × IsLowestTo word (length word) lowest = lowest_to word some (length word) (omega arith) in
+    let is_lowest : IsLowest word lowest.0 = IsLowestTo-all word (length word) lowest.0 refl lowest.1 in
+    let bound : ℤ = lowest.0 +ℤ pos goal in
+    let all : HaveRecords word bound (length word) = records_to word bound is_word (lowest_bound word goal lowest.0 is_word sum is_lowest) (length word) (omega arith) in
+    (all.starts, HasRecords-starts word goal (length word) lowest.0 bound all.least all.starts positive sum some refl is_lowest refl all.has)
