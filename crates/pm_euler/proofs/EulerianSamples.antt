@@ -1,5 +1,5 @@
 -- What is sampled has the vertices that the profile says, the residue is valid, and there is one sample.
-use Rattle.std.proofs.Common.{◌≡◌, ℕ, suc, ◌+◌, ◌-◌, ◌*◌, ◌/◌, ◌<◌, inl, inr, List, [], ◌∷◌, ◌++◌, length, take, drop, sym, ◌∙◌, ap, subst, arith}
+use Rattle.std.proofs.Common.{◌≡◌, ℕ, suc, ◌+◌, ◌-◌, ◌*◌, ◌/◌, ◌<◌, inl, inr, List, [], ◌∷◌, ◌++◌, length, take, drop, refl, sym, ◌∙◌, ap, subst, arith}
 use Rattle.std.specs.Prelude.{slice_index}
 use Rattle.std.proofs.lemmas.Bool.{cases_eq}
 use Rattle.pm_lists.specs.Valid.{IsValidList}
@@ -21,14 +21,16 @@ use Rattle.pm_euler.specs.Eulerian.{ArePreordered, SamplesEulerian, codes_by_deg
 use Rattle.pm_euler.specs.Objects.{halves_of, nodes_of_profile}
 use Rattle.pm_euler.specs.PlanePlanted.{IsPlantedPlane}
 use Rattle.pm_euler.specs.PlantedAnew.{IsPlantedAnew}
-use Rattle.pm_euler.specs.Sampling.{IsSampled, HasOneSample}
+use Rattle.pm_euler.specs.declared.sample.Sample.{Sample}
+use Rattle.pm_euler.specs.Sampling.{IsSampled, HasOneSample, EachListIsSampled}
+use Rattle.pm_euler.proofs.ClosedAnew.{HasClosure, closed_anew}
 use Rattle.pm_euler.proofs.ClosedMaps.{canonical_closure_is_rooted, one_canonical_closure}
-use Rattle.pm_euler.proofs.EulerianBounds.{arrangement_long, eulerian_residue_is_valid}
-use Rattle.pm_euler.proofs.ObjectLemmas.{HasObjects, halves_are}
+use Rattle.pm_euler.proofs.EulerianBounds.{arrangement_long, arrangement_is_valid, rank_is_valid, free_is_valid, eulerian_residue_is_valid}
+use Rattle.pm_euler.proofs.ObjectLemmas.{HasObjects, halves_are, halves_some, halves_few}
 use Rattle.pm_euler.proofs.OneSample.{anew_blossoms, anew_balances, one_anew}
 use Rattle.pm_euler.proofs.PlaneLaws.{plane_planted_blossoming, plane_planted_leaves, plane_planted_nodes, plane_planted_no_odd}
-use Rattle.pm_euler.proofs.PlaneTrees.{plane_planted_unique}
-use Rattle.pm_euler.proofs.Preorders.{IsPreorder, preorder_is, one_preorder}
+use Rattle.pm_euler.proofs.PlaneTrees.{plane_planted_exists, plane_planted_unique}
+use Rattle.pm_euler.proofs.Preorders.{HasPreorder, IsPreorder, preorder_exists, preorder_is, one_preorder}
 
 -- of each degree there are as many vertices of the canonical closure as nodes
 pub closure_degrees : (word : List ℕ) (map : RotationSystem) → IsBlossoming word → IsBalanced (contour word) → IsCanonicalClosure word map → (degree : ℕ) → vertices_of_degree (structure_of map) degree ≡ nodes_of word degree
@@ -151,3 +153,33 @@ one_eulerian_sample pairs is choices map other residue rest x y =
       residues : (s t : ℕ) (os us : List ℕ) (a b : ℕ) → s ≡ t → os ≡ us → a ≡ b → s ∷ (codes_by_degree pairs os ++ a ∷ []) ≡ t ∷ (codes_by_degree pairs us ++ b ∷ [])
       residues s t os us a b e f g =
           ap (λ (n : ℕ). n ∷ (codes_by_degree pairs os ++ a ∷ [])) e ∙ ap (λ (xs : List ℕ). t ∷ (codes_by_degree pairs xs ++ a ∷ [])) f ∙ ap (λ (n : ℕ). t ∷ (codes_by_degree pairs us ++ n ∷ [])) g
+
+-- a tree of the choices that is planted anew and closed gives their sample
+closed_sampled : (pairs : List (ℕ × ℕ)) (choices : List ℕ) (start : ℕ) (objects word : List ℕ) → IsProfile pairs → IsValidList choices (eulerian_choices pairs)
+    → ArePreordered (halves_of pairs) (take (suc (edges_of pairs)) choices) start objects
+    → IsPlantedPlane (halves_of pairs) (take (nodes_of_profile pairs) (drop (suc (edges_of pairs)) choices)) objects word
+    → HasClosure word (slice_index choices (suc (edges_of pairs) + nodes_of_profile pairs))
+    → (sample : Sample) × IsSampled (eulerian_choices pairs) (eulerian_residues pairs) (λ m. IsEulerian (structure_of m) pairs) (SamplesEulerian pairs choices) choices sample
+closed_sampled pairs choices start objects word is valid preorder planted closed =
+    let residue : List ℕ = start ∷ (codes_by_degree pairs objects ++ closed.old_plant ∷ []) in (
+      record { map = closed.map; residue = residue },
+      eulerian_sampled pairs choices start objects word closed.turned closed.old_plant closed.map residue is valid preorder planted closed.is_anew closed.is_closed refl,
+    )
+
+-- each valid list of choices is sampled
+pub each_eulerian_list_is_sampled : (pairs : List (ℕ × ℕ)) → IsProfile pairs
+    → EachListIsSampled (eulerian_choices pairs) (eulerian_residues pairs) (λ m. IsEulerian (structure_of m) pairs) (SamplesEulerian pairs)
+each_eulerian_list_is_sampled pairs is choices valid =
+    let code : List ℕ = take (suc (edges_of pairs)) choices in
+    let ranks : List ℕ = take (nodes_of_profile pairs) (drop (suc (edges_of pairs)) choices) in
+    let free : ℕ = slice_index choices (suc (edges_of pairs) + nodes_of_profile pairs) in
+    let coded : length code ≡ suc (edges_of pairs) = arrangement_long pairs choices valid in
+    let preorder : HasPreorder (halves_of pairs) code = preorder_exists pairs code is coded (arrangement_is_valid pairs choices valid) in
+    let p : IsPreorder pairs preorder.start preorder.objects = preorder_is pairs code preorder.start preorder.objects is coded preorder.are_preordered in
+    let long = p.long in
+    let some = halves_some pairs is in
+    let few = halves_few pairs is in
+    let planted : (word : List ℕ) × IsPlantedPlane (halves_of pairs) ranks preorder.objects word =
+    plane_planted_exists (halves_of pairs) ranks preorder.objects (halves_are pairs is) (λ k less. rank_is_valid pairs choices k valid less) (omega arith) p.good in
+    let blossoming : IsBlossoming planted.0 = planted_tree pairs preorder.start ranks preorder.objects planted.0 is p planted.1 in
+    closed_sampled pairs choices preorder.start preorder.objects planted.0 is valid preorder.are_preordered planted.1 (closed_anew planted.0 free blossoming (free_is_valid pairs choices valid))

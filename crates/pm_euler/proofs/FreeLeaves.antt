@@ -1,12 +1,14 @@
 -- Planting a tree anew at a free leaf.
 use Rattle.std.proofs.Common.{◌≡◌, ℕ, suc, ◌+◌, ◌-◌, ◌%◌, ◌<◌, ◌≤◌, List, ◌∷◌, length, refl, sym, ◌∙◌, ap, subst, inl, inr, arith}
 use Rattle.std.specs.Prelude.{take, slice_index}
+use Rattle.std.proofs.lemmas.Bool.{cases_eq}
 use Rattle.pm_trees.specs.declared.letters.TheConstants.{LEAF}
 use Rattle.pm_trees.specs.Word.{contour, count}
 use Rattle.pm_trees.specs.Blossoming.{IsBlossoming, leaves}
 use Rattle.pm_trees.specs.Leaves.{IsLeafAt}
 use Rattle.pm_trees.specs.Replanted.{IsReplanted, place_from}
 use Rattle.pm_trees.specs.Replanting.{leaf_after}
+use Rattle.pm_trees.proofs.Balance.{two_more_leaves}
 use Rattle.pm_trees.proofs.Tally.{tally_is, tally_yes}
 use Rattle.pm_trees.proofs.RingPlaces.{steps_to, steps_lead, steps_under}
 use Rattle.pm_trees.proofs.LeafTurns.{one_leaf, leaf_within}
@@ -15,6 +17,7 @@ use Rattle.pm_trees.proofs.Replants.{leaves_turned}
 use Rattle.pm_match.specs.Pair.{IsFree, IsBalanced}
 use Rattle.pm_match.specs.Pairing.{Pairs, IsPairing}
 use Rattle.pm_match.proofs.Counts.{leaf_within as leaf_inside}
+use Rattle.pm_match.proofs.Paired.{pairing_exists}
 use Rattle.pm_match.proofs.PairTurns.{free_leaf_balances}
 use Rattle.pm_euler.specs.PlantedAnew.{IsFreeLeaf, IsPlantedAnew, first, second}
 
@@ -66,6 +69,16 @@ pub second_chosen : (places : List ℕ) (found : Pairs) (pair : ℕ × ℕ) (fre
 second_chosen places found pair free pairing e few some =
     let one : 1 ≡ free = omega arith in
     subst (λ (b : ℕ). IsFreeLeaf places b pair.1) one (subst (IsFreeLeaf places 1) (sym (ap (λ (p : ℕ × ℕ). p.1) e)) (second_is_free places found pairing))
+
+-- a blossoming tree has a free leaf of each of the two numbers
+pub free_leaf_exists : (word : List ℕ) (free : ℕ) → IsBlossoming word → free < 2 → (place : ℕ) × IsFreeLeaf (contour word) free place
+free_leaf_exists word free tree few =
+    let found : (pairing : Pairs) × IsPairing (contour word) pairing = pairing_exists word (two_more_leaves word tree) in
+    let pair : ℕ × ℕ = (found.0.first_free, found.0.second_free) in
+    elim (cases_eq free 0) [
+      | inl zero ↦ (pair.0, first_chosen (contour word) found.0 pair free found.1 refl zero)
+      | inr some ↦ (pair.1, second_chosen (contour word) found.0 pair free found.1 refl few some)
+    ]
 
 pub free_leaf_letter : (places : List ℕ) (free place : ℕ) → IsFreeLeaf places free place → slice_index places place ≡ LEAF
 free_leaf_letter places free place is = (free_leaf_is_free places free place is).leaf

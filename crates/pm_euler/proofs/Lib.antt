@@ -1,4 +1,5 @@
 pub mod BoundLemmas
+pub mod ClosedAnew
 pub mod ClosedMaps
 pub mod EulerianBounds
 pub mod EulerianChoices

@@ -1,18 +1,19 @@
 -- The objects in preorder: there are some where the word is that of a profile's objects, and they are one list.
-use Rattle.std.proofs.Common.{◌≡◌, ℕ, suc, ◌<◌, ◌≤◌, inl, inr, List, ◌++◌, ℤ, pos, neg_ℤ, slice_index, length, take, drop, sym, ◌∙◌, ap, ap₂, subst, arith}
+use Rattle.std.proofs.Common.{◌≡◌, ℕ, suc, ◌<◌, ◌≤◌, inl, inr, List, ◌++◌, ℤ, pos, neg_ℤ, slice_index, length, take, drop, refl, sym, ◌∙◌, ap, ap₂, subst, arith}
 use Rattle.std.proofs.lemmas.Bool.{cases_order}
 use Rattle.std.proofs.lemmas.Int.{ints}
 use Rattle.std.proofs.lemmas.List.{drop-map, take-map, map-append, length-map, length-append, length-drop, length-take-le}
-use Rattle.pm_lehmer.specs.Lehmer.{IsArrangementOf}
-use Rattle.pm_lehmer.proofs.Arranged.{IsArrangementOf-unique}
+use Rattle.pm_lehmer.specs.Lehmer.{IsArrangementCode, IsArrangementOf}
+use Rattle.pm_lehmer.proofs.Arranged.{IsArrangementOf-unique, has_arrangement}
 use Rattle.pm_words.specs.Word.{IsGood, IsGoodStart, IsGoodStarts, sum_of, turned}
 use Rattle.pm_words.specs.Plane.{letter_of}
+use Rattle.pm_words.proofs.Cycle.{good_starts_exist}
 use Rattle.pm_words.proofs.Heights.{IsLow, IsLow-from_good}
 use Rattle.pm_trees.specs.Pairs.{IsProfile, edges_of}
 use Rattle.pm_euler.specs.Objects.{halves_of, half_of, letters_of}
 use Rattle.pm_euler.specs.Eulerian.{ArePreordered}
 use Rattle.pm_euler.proofs.BoundLemmas.{length-code_of}
-use Rattle.pm_euler.proofs.ObjectLemmas.{HasObjects, arranged_objects, letters_sum}
+use Rattle.pm_euler.proofs.ObjectLemmas.{HasObjects, arranged_objects, letters_sum, letters_word}
 
 -- a word that sums to -1 has one good start
 pub one_good_start : (word : List ℤ) (first second : ℕ) → sum_of word ≡ neg_ℤ (pos 1) → IsGoodStart 1 word first → IsGoodStart 1 word second → first ≡ second
@@ -82,3 +83,22 @@ preordered halves code arrangement objects starts start arranged found first tur
   is_start = let one = found.as_many in subst (IsGoodStart 1 (letters_of halves arrangement)) (sym first) (found.good 0 (omega (arith, one)));
   are_turned = turned_is;
 }
+
+-- each code has its preorder
+pub record HasPreorder (halves code : List ℕ) : Type 0 where
+  pub start : ℕ
+  pub objects : List ℕ
+  pub are_preordered : ArePreordered halves code start objects
+
+pub preorder_exists : (pairs : List (ℕ × ℕ)) (code : List ℕ) → IsProfile pairs → length code ≡ suc (edges_of pairs) → IsArrangementCode code → HasPreorder (halves_of pairs) code
+preorder_exists pairs code is coded is_code =
+    let arranged : (arrangement : List ℕ) × IsArrangementOf code arrangement = has_arrangement code is_code in
+    let letters : List ℤ = letters_of (halves_of pairs) arranged.0 in
+    let sum : sum_of letters ≡ neg_ℤ (pos 1) = letters_sum pairs arranged.0 is arranged.1.is_permutation (arrangement_long code arranged.0 arranged.1 ∙ coded) in
+    let found : (starts : List ℕ) × IsGoodStarts 1 letters starts = good_starts_exist 1 letters (omega arith) (letters_word (halves_of pairs) arranged.0) sum in
+    let start : ℕ = slice_index found.0 0 in
+    record {
+      start = start;
+      objects = turned start arranged.0;
+      are_preordered = preordered (halves_of pairs) code arranged.0 (turned start arranged.0) found.0 start arranged.1 found.1 refl refl;
+    }

@@ -1,8 +1,9 @@
 -- What is sampled is a quartic map of the size, and the residue is valid.
-use Rattle.std.proofs.Common.{◌≡◌, ℕ, suc, ◌+◌, ◌*◌, ◌<◌, List, ◌∷◌, length, length-take, take, drop, sym, ◌∙◌, ap, subst, arith}
+use Rattle.std.proofs.Common.{◌≡◌, ℕ, suc, ◌+◌, ◌*◌, ◌<◌, List, ◌∷◌, length, length-take, take, drop, refl, sym, ◌∙◌, ap, subst, arith}
 use Rattle.std.specs.Prelude.{slice_index}
 use Rattle.pm_lists.specs.Valid.{IsValidList}
 use Rattle.pm_lehmer.specs.Lehmer.{code_of, IsArrangementCode}
+use Rattle.pm_lehmer.proofs.Arranged.{code_of-is_code}
 use Rattle.pm_remy.specs.Tree.{Tree, labels_of, leaves}
 use Rattle.pm_remy.specs.Growth.{grown}
 use Rattle.pm_remy.proofs.Grown.{counted-grown}
@@ -18,9 +19,12 @@ use Rattle.pm_euler.specs.Planted.{IsPlanted}
 use Rattle.pm_euler.specs.PlantedAnew.{IsPlantedAnew}
 use Rattle.pm_euler.specs.Closed.{IsCanonicalClosure}
 use Rattle.pm_euler.specs.Quartic.{IsQuarticSize, SamplesQuartic}
-use Rattle.pm_euler.specs.Sampling.{IsSampled}
-use Rattle.pm_euler.proofs.BoundLemmas.{length-quartic_choices, growth_is_valid, ranks_long, length-code_of, residue_is_valid}
+use Rattle.pm_euler.specs.declared.sample.Sample.{Sample}
+use Rattle.pm_euler.specs.Sampling.{IsSampled, EachListIsSampled}
+use Rattle.pm_euler.proofs.BoundLemmas.{length-quartic_choices, growth_is_valid, ranks_are_valid, ranks_long, free_is_valid, length-code_of, residue_is_valid}
 use Rattle.pm_euler.proofs.PlantingTrees.{planted_blossoming, planted_no_other, planted_leaves, planted_length}
+use Rattle.pm_euler.proofs.PlantingWords.{planted_exists}
+use Rattle.pm_euler.proofs.ClosedAnew.{HasClosure, closed_anew}
 use Rattle.pm_euler.proofs.ClosedMaps.{quartic_closure}
 use Rattle.pm_euler.proofs.OneSample.{anew_blossoms, anew_balances}
 
@@ -78,3 +82,26 @@ quartic_sampled n choices tree ranks word turned old_plant map residue size vali
       valid_residue = subst (λ (r : List ℕ). IsValidList r (quartic_residues n)) (sym residue_is)
           (residue_is_valid n old_plant (code_of (labels_of tree)) (sampled_old n tree ranks word (slice_index choices (2 * n)) turned old_plant size long is anew) (length-code_of (labels_of tree) ∙ labels) is_code);
     }
+
+-- a tree of the choices that is planted anew and closed gives their sample
+closed_sampled : (n : ℕ) (choices word : List ℕ) → IsQuarticSize n → IsValidList choices (quartic_choices n) → IsPlanted (grown (take n choices)) (take n (drop n choices)) word → HasClosure word (slice_index choices (2 * n))
+    → (sample : Sample) × IsSampled (quartic_choices n) (quartic_residues n) (λ m. IsQuartic (structure_of m) n) (SamplesQuartic n choices) choices sample
+closed_sampled n choices word size valid planted closed =
+    let residue : List ℕ = closed.old_plant ∷ code_of (labels_of (grown (take n choices))) in (
+      record { map = closed.map; residue = residue },
+      quartic_sampled n choices (grown (take n choices)) (take n (drop n choices)) word closed.turned closed.old_plant closed.map residue size valid refl refl planted closed.is_anew closed.is_closed refl
+          (code_of-is_code (labels_of (grown (take n choices)))),
+    )
+
+-- each valid list of choices is sampled
+pub each_quartic_list_is_sampled : (n : ℕ) → IsQuarticSize n → EachListIsSampled (quartic_choices n) (quartic_residues n) (λ m. IsQuartic (structure_of m) n) (SamplesQuartic n)
+each_quartic_list_is_sampled n size choices valid =
+    let tree : Tree = grown (take n choices) in
+    let ranks : List ℕ = take n (drop n choices) in
+    let free : ℕ = slice_index choices (2 * n) in
+    let long : length ranks ≡ n = ranks_long n choices (valid.as_long ∙ length-quartic_choices n) in
+    let some = size.some in
+    let few = size.few in
+    let planted : (word : List ℕ) × IsPlanted tree ranks word = planted_exists tree ranks (grown_leaves n choices valid ∙ ap suc (sym long)) (omega arith) (ranks_are_valid n n choices valid refl) in
+    let blossoming : IsBlossoming planted.0 = planted_blossoming tree ranks planted.0 planted.1 (omega arith) in
+    closed_sampled n choices planted.0 size valid planted.1 (closed_anew planted.0 free blossoming (free_is_valid n choices valid))

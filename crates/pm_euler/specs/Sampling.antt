@@ -43,3 +43,8 @@ abbrev pub HasOneSample : (List ℕ → RotationSystem → List ℕ → Type 0) 
 HasOneSample samples =
     (choices : List ℕ) (map other : RotationSystem) (residue rest : List ℕ) → samples choices map residue → samples choices other rest
     → (map ≡ other) × (residue ≡ rest)
+
+-- a law: valid choices give some map and residue; the map is canonical and of the class and size, and the residue is valid
+abbrev pub EachListIsSampled : List ℕ → List ℕ → (RotationSystem → Type 0) → (List ℕ → RotationSystem → List ℕ → Type 0) → Type 0
+EachListIsSampled bounds residues has samples =
+    (choices : List ℕ) → IsValidList choices bounds → (sample : Sample) × IsSampled bounds residues has (samples choices) choices sample

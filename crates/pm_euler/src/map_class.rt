@@ -2,7 +2,7 @@
 ghost use Rattle.std.specs.Prelude.{◌≡◌, ◌↔◌, ℕ, List, Result, IfOk, IsTrue};
 ghost use Rattle.pm_map.specs.Rotation.{RotationSystem};
 ghost use Rattle.pm_map.specs.declared.class_refusal.ClassRefusal.{ClassRefusal};
-ghost use Rattle.pm_euler.specs.Sampling.{IsSampling, IsSizeWhereAnswered, HasOneAnswer, HasOneSample};
+ghost use Rattle.pm_euler.specs.Sampling.{IsSampling, IsSizeWhereAnswered, HasOneAnswer, HasOneSample, EachListIsSampled};
 
 use crate::sample::{Sample, SampleRefusal};
 use pm_lists::Bounds;
@@ -73,10 +73,11 @@ pub trait MapClass {
         ensures { IsSampling (choice_limits size.now) (residue_limits size.now) (has size.now) (samples size.now choices.now) choices.now result };
 
     /// The laws of the class, to call upon; nothing is computed. A map is answered a size exactly where it is in the
-    /// class with that size, which is admissible then; it has one answer, but for want of memory. The choices of a size
-    /// give one map and one residue.
+    /// class with that size, which is admissible then; it has one answer, but for want of memory. Each valid list of
+    /// choices of a size gives a map and a residue, and no list gives two.
     fn is_sampled_once()
         ensures sized { IsSizeWhereAnswered is_size has answers }
         ensures one_answer { HasOneAnswer answers }
+        ensures each_sampled { (size : Self.Size) → is_size size → EachListIsSampled (choice_limits size) (residue_limits size) (has size) (samples size) }
         ensures one_sample { (size : Self.Size) → is_size size → HasOneSample (samples size) };
 }
