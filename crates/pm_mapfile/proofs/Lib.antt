@@ -13,3 +13,4 @@ pub mod LineCycles
 pub mod TextAnswers
 pub mod OneAnswer
 pub mod ReadAgainLemmas
+pub mod CanonicalTexts
