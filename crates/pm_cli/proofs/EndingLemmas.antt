@@ -1,5 +1,5 @@
 -- How a run ends, from how its steps ended.
-use Rattle.std.proofs.Common.{◌≡◌, ◌≢◌, ℕ, inl, inr, true, false, List, length, take, refl, sym, ap, ◌∙◌, subst}
+use Rattle.std.proofs.Common.{◌≡◌, ◌≢◌, ℕ, inl, inr, true, false, List, ◌++◌, length, take, refl, sym, ap, ◌∙◌, subst}
 use Rattle.std.specs.Prelude.{Option, Some, Result, Ok, Err, Vec}
 use Rattle.std.specs.declared.alloc.Global.{Global}
 use Rattle.std.proofs.Math.Seq.{take-length}
@@ -17,7 +17,7 @@ use Rattle.pm_cli.specs.Commands.{Spells, reads, IsNoCommand}
 use Rattle.pm_cli.specs.Answer.{Answers, no_command, too_long, of_file, of_words, CommandAnswers}
 use Rattle.pm_cli.specs.Answering.{IsAnswerOf}
 use Rattle.pm_cli.specs.Lines.{status_of_stop}
-use Rattle.pm_cli.specs.Beginning.{IsFirstRecords, of_answer, of_records}
+use Rattle.pm_cli.specs.Beginning.{IsFirstRecords}
 use Rattle.pm_cli.specs.Drawing.{IsDrawing, HasFirstRecords}
 use Rattle.pm_cli.specs.Ending.{ReadNothing, IsWritingRecords, IsInput, Ends, EndsBy, HasRead, IsReading, IsWriting, IsToldFor}
 
@@ -101,7 +101,7 @@ written_by words command left after old new f g h i read text (Ok done) spells r
 }
 written_by words command left after old new f g h i read text (Err Write) spells reader was_read answers written bytes input = record {
   text = text;
-  begins = of_answer (answers_file words command left after f g read bytes (Ok text) spells reader was_read answers input);
+  answers = answers_file words command left after f g read bytes (Ok text) spells reader was_read answers input;
   front = written.0.0;
   written = written.0.1;
 }
@@ -147,12 +147,25 @@ ends_drawing words command bounds samples seed count left old new f g (Ok done) 
 }
 ends_drawing words command bounds samples seed count left old new f g (Err Write) spells unread all first drew bytes input = record {
   text = drew.0.text;
-  begins = of_records command spells (first drew.0.text drew.0.holds);
+  answers = of_words command spells unread (Ok drew.0.text) (all bytes drew.0.text drew.0.holds);
   front = drew.0.front;
   written = drew.0.written;
 }
 ends_drawing words command bounds samples seed count left old new f g (Err Memory) spells unread all first drew bytes input =
-    inr (record { command = command; spells = spells; text = drew.text; records = first drew.text drew.holds; written = drew.written })
+    elim drew [
+      | inl same ↦ inl same
+      | inr begun ↦ inr (record {
+        text = begun.begun ++ begun.rest;
+        answers = of_words command spells unread (Ok (begun.begun ++ begun.rest)) (all bytes (begun.begun ++ begun.rest) begun.holds);
+        command = command;
+        spells = spells;
+        begun = begun.begun;
+        rest = begun.rest;
+        records = first begun.begun begun.records;
+        whole = refl;
+        written = begun.written;
+      })
+    ]
 ends_drawing words command bounds samples seed count left old new f g (Err Read) spells unread all first drew bytes input = absurd drew
 ends_drawing words command bounds samples seed count left old new f g (Err (Refused refusal)) spells unread all first drew bytes input = absurd drew
 

@@ -1,4 +1,3 @@
-pub mod Beginnings
 pub mod ChoicesLines
 pub mod CommandWords
 pub mod DrawWords
@@ -15,4 +14,5 @@ pub mod PairTexts
 pub mod Records
 pub mod Sizes
 pub mod TreeLines
+pub mod WholeDrawings
 pub mod WordPlaces

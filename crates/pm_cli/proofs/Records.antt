@@ -1,9 +1,8 @@
 -- Records of drawn lists, and texts of several.
-use Rattle.std.proofs.Common.{◌≡◌, ℕ, zero, suc, ◌+◌, ◌<◌, ◌≤◌, List, [], ◌∷◌, ◌++◌, length, take, append_assoc, add-one, inl, inr, refl, sym, ap, ap₂, ◌∙◌, subst, arith}
+use Rattle.std.proofs.Common.{◌≡◌, ℕ, zero, suc, ◌+◌, ◌<◌, ◌≤◌, List, [], ◌∷◌, ◌++◌, length, take, drop, append_assoc, add-one, refl, sym, ap, ap₂, ◌∙◌, subst, arith}
 use Rattle.std.specs.Prelude.{codes, Option, None, Some}
-use Rattle.std.proofs.Math.Seq.{take-length, take-append-add}
-use Rattle.std.proofs.lemmas.Bool.{cases_lt}
-use Rattle.std.proofs.lemmas.List.{append-nil}
+use Rattle.std.proofs.Math.Seq.{take-append_seam}
+use Rattle.std.proofs.lemmas.List.{append-nil, take-append-drop}
 use Rattle.rand_core.specs.Stream.{Stream}
 use Rattle.pm_io.specs.Bytes.{added}
 use Rattle.pm_text.specs.Broken.{newline}
@@ -11,8 +10,8 @@ use Rattle.pm_lists.specs.ListLine.{SpellsList, list_line}
 use Rattle.pm_map.specs.Rotation.{RotationSystem}
 use Rattle.pm_draw.specs.Drawn.{generator_of, words_of, drawn}
 use Rattle.pm_cli.specs.Sampling.{IsChoicesLine, IsTextOfSample, IsSampleText}
-use Rattle.pm_cli.specs.Drawing.{IsRecord, left_after, AreRecords, IsDrawing, HasFirstRecords}
-use Rattle.pm_cli.specs.Ending.{HasAdded, HasAddedFront}
+use Rattle.pm_cli.specs.Drawing.{IsRecord, left_after, AreRecords, IsDrawing, HasFirstRecords, RecordsGoOn}
+use Rattle.pm_cli.specs.Ending.{HasAddedFront, HasAddedFirst}
 use Rattle.pm_cli.proofs.ChoicesLines.{line_of}
 
 -- the line of the choices, and the text that they give
@@ -73,32 +72,38 @@ one_more_written bounds samples seed count old mid new left after last w is rest
   rest = rest ∙ ap (λ (s : Stream). (drawn bounds s).1) w.rest ∙ ap (left_after bounds (words_of (generator_of seed))) (sym (add-one count));
 }
 
--- the first records, where some are written
-pub first_written : (bounds : List ℕ) (samples : List ℕ → RotationSystem → List ℕ → Type 0) (seed count all : ℕ) (old new : Option (List ℕ)) (left : Stream) → count ≤ all
-    → AreWritten bounds samples seed count old new left → HasAdded (HasFirstRecords bounds samples seed all) old new
-first_written bounds samples seed count all old new left l w =
-    record { text = w.text; holds = record { records = count; within = l; is_drawing = w.is_drawing }; written = w.written }
+-- a front of a text of some kind is written
+front_written : (text_is : List ℕ → Type 0) (old new : Option (List ℕ)) (front rest : List ℕ) → text_is (front ++ rest) → new ≡ added old front → HasAddedFront text_is old new
+front_written text_is old new front rest is adds =
+    record { text = front ++ rest; holds = is; front = length front; written = adds ∙ ap (added old) (sym (take-append_seam front rest)) }
 
--- a front of one more record is written
-pub front_written : (bounds : List ℕ) (samples : List ℕ → RotationSystem → List ℕ → Type 0) (seed count all n : ℕ) (old mid new : Option (List ℕ)) (left : Stream) (last : List ℕ) → count < all
-    → AreWritten bounds samples seed count old mid left → IsRecord samples (drawn bounds left).0 last → new ≡ added mid (take n last)
-    → HasAddedFront (HasFirstRecords bounds samples seed all) old new
-front_written bounds samples seed count all n old mid new left last l w is adds = record {
-  text = w.text ++ last;
-  holds = record { records = count + 1; within = omega arith; is_drawing = one_more_text bounds samples seed count old mid left last w is };
-  front = length w.text + n;
-  written = adds ∙ ap (λ (o : Option (List ℕ)). added o (take n last)) w.written ∙ added_twice old w.text (take n last) ∙ ap (added old) (sym (take-append-add w.text last n));
-}
+-- where the first records are a front of more
+module _ (bounds : List ℕ) (samples : List ℕ → RotationSystem → List ℕ → Type 0) (go_on : RecordsGoOn bounds samples) (seed count all : ℕ) where
+  -- the first records are written
+  pub first_written : (old new : Option (List ℕ)) (left : Stream) → count ≤ all → AreWritten bounds samples seed count old new left
+      → HasAddedFirst (HasFirstRecords bounds samples seed all) (IsDrawing bounds samples seed all) old new
+  first_written old new left l w =
+      let more = go_on seed count all w.text l w.is_drawing in
+      record { begun = w.text; records = record { records = count; within = l; is_drawing = w.is_drawing }; rest = more.0; holds = more.1; written = w.written }
 
--- the first records, as a front of themselves
-pub first_in_front : (bounds : List ℕ) (samples : List ℕ → RotationSystem → List ℕ → Type 0) (seed count all : ℕ) (old mid new : Option (List ℕ)) (left : Stream) → count ≤ all
-    → AreWritten bounds samples seed count old mid left → new ≡ mid → HasAddedFront (HasFirstRecords bounds samples seed all) old new
-first_in_front bounds samples seed count all old mid new left l w stays = record {
-  text = w.text;
-  holds = record { records = count; within = l; is_drawing = w.is_drawing };
-  front = length w.text;
-  written = stays ∙ w.written ∙ ap (added old) (sym (take-length w.text));
-}
+  -- the first records are written, as a front of all
+  pub first_in_front : (old mid new : Option (List ℕ)) (left : Stream) → count ≤ all → AreWritten bounds samples seed count old mid left → new ≡ mid
+      → HasAddedFront (IsDrawing bounds samples seed all) old new
+  first_in_front old mid new left l w stays =
+      let more = go_on seed count all w.text l w.is_drawing in
+      front_written (IsDrawing bounds samples seed all) old new w.text more.0 more.1 (stays ∙ w.written)
+
+  -- the first records are written, and a front of one more
+  pub next_in_front : (n : ℕ) (old mid new : Option (List ℕ)) (left : Stream) (last : List ℕ) → count < all → AreWritten bounds samples seed count old mid left
+      → IsRecord samples (drawn bounds left).0 last → new ≡ added mid (take n last) → HasAddedFront (IsDrawing bounds samples seed all) old new
+  next_in_front n old mid new left last l w is adds =
+      let more = go_on seed (count + 1) all (w.text ++ last) (omega arith) (one_more_text bounds samples seed count old mid left last w is) in
+      let same : (w.text ++ last) ++ more.0 ≡ (w.text ++ take n last) ++ (drop n last ++ more.0) =
+      ap (λ (t : List ℕ). (w.text ++ t) ++ more.0) (sym (take-append-drop n last)) ∙ ap (λ (t : List ℕ). t ++ more.0) (sym (append_assoc w.text (take n last) (drop n last)))
+      ∙ append_assoc (w.text ++ take n last) (drop n last) more.0 in
+      front_written (IsDrawing bounds samples seed all) old new (w.text ++ take n last) (drop n last ++ more.0)
+      (subst (IsDrawing bounds samples seed all) same more.1)
+      (adds ∙ ap (λ (o : Option (List ℕ)). added o (take n last)) w.written ∙ added_twice old w.text (take n last))
 
 -- a list has one record, where it has one text of its map and residue
 module _ (bounds : List ℕ) (samples : List ℕ → RotationSystem → List ℕ → Type 0)
@@ -113,21 +118,3 @@ module _ (bounds : List ℕ) (samples : List ℕ → RotationSystem → List ℕ
   records_once stream (suc count) a b x y =
       x.whole ∙ ap₂ (λ (s t : List ℕ). s ++ t) (records_once stream count x.front y.front x.is_front y.is_front)
       (one_record (drawn bounds (left_after bounds stream count)).0 x.back y.back x.is_back y.is_back) ∙ sym y.whole
-
-  -- and that of fewer records is a front of that of more
-  pub fewer_in_front : (stream : Stream) (fewer more : ℕ) (a b : List ℕ) → fewer ≤ more → AreRecords bounds samples stream fewer a → AreRecords bounds samples stream more b
-      → (rest : List ℕ) × (b ≡ a ++ rest)
-  unfolding AreRecords
-  fewer_in_front stream fewer zero a b l x y =
-      let none : fewer ≡ 0 = omega arith in
-      let same : a ≡ b = records_once stream 0 a b (subst (λ (n : ℕ). AreRecords bounds samples stream n a) none x) y in
-      ([], sym same ∙ sym (append-nil a))
-  fewer_in_front stream fewer (suc more) a b l x y = elim (cases_lt more fewer) [
-    | inl all ↦
-        let as_many : fewer ≡ suc more = omega arith in
-        let same : a ≡ b = records_once stream (suc more) a b (subst (λ (n : ℕ). AreRecords bounds samples stream n a) as_many x) y in
-        ([], sym same ∙ sym (append-nil a))
-    | inr less ↦
-        let front = fewer_in_front stream fewer more a y.front less x y.is_front in
-        (front.0 ++ y.back, y.whole ∙ ap (λ (t : List ℕ). t ++ y.back) front.1 ∙ append_assoc a front.0 y.back)
-  ]

@@ -44,6 +44,12 @@ pub record HasFirstRecords (bounds : List ℕ) (samples : List ℕ → RotationS
   pub within : records ≤ count
   pub is_drawing : IsDrawing bounds samples seed records text
 
+-- a law: first records are a front of more of them, since each list that is drawn has a record
+abbrev pub RecordsGoOn : List ℕ → (List ℕ → RotationSystem → List ℕ → Type 0) → Type 0
+RecordsGoOn bounds samples =
+    (seed fewer more : ℕ) (text : List ℕ) → fewer ≤ more → IsDrawing bounds samples seed fewer text
+    → (rest : List ℕ) × IsDrawing bounds samples seed more (text ++ rest)
+
 -- the answer: so many records
 abbrev pub Draws : List ℕ → (List ℕ → RotationSystem → List ℕ → Type 0) → ℕ → ℕ → Result (List ℕ) Refusal → Type 0
 Draws bounds samples seed count (Ok text) = IsDrawing bounds samples seed count text

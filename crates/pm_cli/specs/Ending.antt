@@ -1,5 +1,5 @@
 -- How a run ends, and what stands in its streams then.
-use Rattle.std.specs.Prelude.{◌≡◌, ℕ, ◌<◌, ◌≤◌, ◌⊎◌, true, false, List, [], length, take, Option, Some, Result, Ok, Err, Vec, ⊤}
+use Rattle.std.specs.Prelude.{◌≡◌, ℕ, ◌<◌, ◌≤◌, ◌⊎◌, true, false, List, [], ◌++◌, length, take, Option, Some, Result, Ok, Err, Vec, ⊤}
 use Rattle.std.specs.declared.alloc.Global.{Global}
 use Rattle.pm_io.specs.declared.TheConstants.{MAX_BYTES}
 use Rattle.pm_io.specs.Bytes.{added}
@@ -11,7 +11,7 @@ use Rattle.pm_cli.specs.declared.refusal.Stop.{Stop}
 use Rattle.pm_cli.specs.declared.refusal.Stop.TheVariants.{Refused, Read, Write, Memory}
 use Rattle.pm_cli.specs.Commands.{Spells, reads, writes_records}
 use Rattle.pm_cli.specs.Answer.{Answers}
-use Rattle.pm_cli.specs.Beginning.{IsFirstRecords, BeginsAnswer}
+use Rattle.pm_cli.specs.Beginning.{IsFirstRecords}
 use Rattle.pm_cli.specs.Lines.{line_of}
 
 -- the words are no command that reads
@@ -30,10 +30,10 @@ WriteWhole words = (command : Command) → Spells words command → writes_recor
 abbrev pub IsInput : List (List ℕ) → Option (List ℕ) → List ℕ → Type 0
 IsInput words left bytes = (left ≡ Some bytes) ⊎ ReadNothing words
 
--- some text is the answer or its first records, and its first n bytes were added to the output
+-- some text is the answer, and its first n bytes were added to the output
 pub record HasWritten (words : List (List ℕ)) (bytes : List ℕ) (old new : Option (List ℕ)) : Type 0 where
   pub text : List ℕ
-  pub begins : BeginsAnswer words bytes text
+  pub answers : Answers words bytes (Ok text)
   pub front : ℕ
   pub written : new ≡ added old (take front text)
 
@@ -43,13 +43,17 @@ pub record HasAnswered (words : List (List ℕ)) (bytes : List ℕ) (old new : O
   pub answers : Answers words bytes (Ok text)
   pub written : new ≡ added old text
 
--- the first records of the answer were added to the output
-pub record HasBegun (words : List (List ℕ)) (old new : Option (List ℕ)) : Type 0 where
+-- some text is the answer of a command that writes record by record, and its first records were added to the output
+pub record HasBegun (words : List (List ℕ)) (bytes : List ℕ) (old new : Option (List ℕ)) : Type 0 where
+  pub text : List ℕ
+  pub answers : Answers words bytes (Ok text)
   pub command : Command
   pub spells : Spells words command
-  pub text : List ℕ
-  pub records : IsFirstRecords command text
-  pub written : new ≡ added old text
+  pub begun : List ℕ
+  pub rest : List ℕ
+  pub records : IsFirstRecords command begun
+  pub whole : text ≡ begun ++ rest
+  pub written : new ≡ added old begun
 
 -- What was added to the output: the whole answer; nothing where the words and bytes are refused, as they are then, and
 -- where the input failed; a front of the answer where the output failed; nothing where memory was wanting, or the first
@@ -59,7 +63,7 @@ EndsBy words bytes old new (Ok done) = HasAnswered words bytes old new
 EndsBy words bytes old new (Err (Refused refusal)) = Answers words bytes (Err refusal) × (new ≡ old)
 EndsBy words bytes old new (Err Read) = new ≡ old
 EndsBy words bytes old new (Err Write) = HasWritten words bytes old new
-EndsBy words bytes old new (Err Memory) = (new ≡ old) ⊎ HasBegun words old new
+EndsBy words bytes old new (Err Memory) = (new ≡ old) ⊎ HasBegun words bytes old new
 
 -- the same for all bytes that the input may hold
 abbrev pub Ends : List (List ℕ) → Option (List ℕ) → Option (List ℕ) → Option (List ℕ) → Result (Unit {0}) Stop → Type 0
@@ -107,12 +111,20 @@ pub record HasAddedFront (text_is : List ℕ → Type 0) (old new : Option (List
   pub front : ℕ
   pub written : new ≡ added old (take front text)
 
--- all records were written, or a front of the first ones where the output failed, or the first ones where memory was
+-- a text of the first kind was added, and it is a front of a text of the second
+pub record HasAddedFirst (first all : List ℕ → Type 0) (old new : Option (List ℕ)) : Type 0 where
+  pub begun : List ℕ
+  pub records : first begun
+  pub rest : List ℕ
+  pub holds : all (begun ++ rest)
+  pub written : new ≡ added old begun
+
+-- all records were written, or a front of them where the output failed, or nothing or the first ones where memory was
 -- wanting
 abbrev pub IsWritingRecords : (List ℕ → Type 0) → (List ℕ → Type 0) → Option (List ℕ) → Option (List ℕ) → ℕ → ℕ → Result (Unit {0}) Stop → Type 0
 IsWritingRecords all first old new faults_old faults_new (Ok done) = HasAdded all old new × (faults_new ≡ faults_old)
-IsWritingRecords all first old new faults_old faults_new (Err Write) = HasAddedFront first old new × FaultsRose faults_old faults_new
-IsWritingRecords all first old new faults_old faults_new (Err Memory) = HasAdded first old new
+IsWritingRecords all first old new faults_old faults_new (Err Write) = HasAddedFront all old new × FaultsRose faults_old faults_new
+IsWritingRecords all first old new faults_old faults_new (Err Memory) = (new ≡ old) ⊎ HasAddedFirst first all old new
 IsWritingRecords all first old new faults_old faults_new (Err stop) = ⊥
 
 -- where the input told its bytes, none are left

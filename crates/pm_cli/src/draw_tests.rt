@@ -1,5 +1,4 @@
 //! Runs that draw. The bytes were worked out apart from the code.
-use crate::beginning_is_front;
 use crate::tests::{Faults, NONE, run_on};
 use std::alloc::Global;
 use std::process::Abort;
@@ -13,7 +12,6 @@ const FIRST_RECORD: &[u8] = b"choices 0 2 0\nmap 2 0\nv 0 1 2 3\nend\nresidue 2 
 // The input fails at its first read, and isn't read.
 #[test]
 fn draws(rt: HostRuntime) -> Result<(), Fail> {
-    beginning_is_front();
     let unread = Faults { read: 1, ..NONE };
     for (line, want) in [
         ("draw quartic 1 7 2", TWO_RECORDS),

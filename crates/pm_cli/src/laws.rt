@@ -1,13 +1,8 @@
 //! Laws of the answer.
-ghost use Rattle.pm_cli.specs.Laws.{HasOneAnswer, BeginningIsFront};
+ghost use Rattle.pm_cli.specs.Laws.{HasOneAnswer};
 
 /// A law: words and bytes have one answer and no other, so that each refusal comes exactly where its rule is the first
 /// that is broken.
 pub fn words_and_bytes_have_one_answer()
     ensures { HasOneAnswer }
-{}
-
-/// A law: what begins the answer is a front of it; so are the first records of a drawing.
-pub fn beginning_is_front()
-    ensures { BeginningIsFront }
 {}

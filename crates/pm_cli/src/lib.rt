@@ -17,7 +17,7 @@ mod tree_file;
 mod words;
 
 pub use engine::run;
-pub use laws::{beginning_is_front, words_and_bytes_have_one_answer};
+pub use laws::words_and_bytes_have_one_answer;
 pub use refusal::{Limit, MapRule, Refusal, Stop, TreeRule};
 pub use words::{Command, MAX_RECORDS};
 

@@ -1,15 +1,15 @@
-use Rattle.std.proofs.Common.{ℕ, List, take, refl, ap, ◌∙◌, subst, arith}
+use Rattle.std.proofs.Common.{ℕ, List, take, inr, refl, ap, ◌∙◌, subst, arith}
 use Rattle.pm_io.specs.Bytes.{added}
 use Rattle.pm_io.specs.Faults.{FaultsRose}
 use Rattle.pm_draw.specs.Drawn.{generator_of, words_of, drawn}
 use Rattle.pm_cli.specs.Drawing.{IsRecord}
-use Rattle.pm_cli.proofs.Records.{none_written, first_written, one_more_written, front_written, first_in_front}
+use Rattle.pm_cli.proofs.Records.{none_written, first_written, one_more_written, next_in_front, first_in_front}
 use Rattle.pm_cli.proofs.draw.draw.Goals as goal
 
-pub returns-in-Err : goal.returns-in-Err
-returns-in-Err g c =
-    first_written (g.C.MapClass.choice_limits c.args.size.now) (g.C.MapClass.samples c.args.size.now) c.args.seed 0 c.args.count (g.O.Sink.holds c.args.out.now)
-    (g.O.Sink.holds c.args.out.now) (words_of (generator_of c.args.seed)) (omega arith) (none_written _ _ c.args.seed _ _ refl)
+pub returns-in-Err-draw_record : goal.returns-in-Err-draw_record
+returns-in-Err-draw_record g c =
+    inr (first_written (g.C.MapClass.choice_limits c.args.size.now) (g.C.MapClass.samples c.args.size.now) c.records_go_on.ensures c.args.seed c.records._place c.args.count
+    (g.O.Sink.holds c.args.out.now) (g.O.Sink.holds c.records.out) (words_of c.records.rng) (omega arith) c.records.invariant.so_far)
 
 pub records-init : goal.records-init
 records-init g c = record { so_far = none_written _ _ c.args.seed _ (words_of c.rng_of-rng.result) (ap words_of c.rng_of-rng.ensures); calm = refl }
@@ -19,7 +19,7 @@ returns-in-Err-write g c =
     let is_record = subst (λ (bounds : List ℕ). IsRecord (g.C.MapClass.samples c.args.size.now) (drawn bounds (words_of c.records.rng)).0 c.in-Ok-draw_record.record.items)
     c.in-Ok.ensures c.in-Ok-draw_record.ensures.record in
     let front = c.in-Err-write.ensures.front in (
-      front_written (g.C.MapClass.choice_limits c.args.size.now) (g.C.MapClass.samples c.args.size.now) c.args.seed c.records._place c.args.count front.0
+      next_in_front (g.C.MapClass.choice_limits c.args.size.now) (g.C.MapClass.samples c.args.size.now) c.records_go_on.ensures c.args.seed c.records._place c.args.count front.0
           (g.O.Sink.holds c.args.out.now) (g.O.Sink.holds c.records.out) (g.O.Sink.holds c.write.new.self) (words_of c.records.rng) c.in-Ok-draw_record.record.items
           c.records-test.true c.records.invariant.so_far is_record
           (front.1 ∙ ap (λ (t : List ℕ). added (g.O.Sink.holds c.records.out) (take front.0 t)) c.deref.ensures.value),
@@ -41,7 +41,7 @@ records-preserved g c =
 
 pub returns : goal.returns
 returns g c = (
-  first_in_front (g.C.MapClass.choice_limits c.args.size.now) (g.C.MapClass.samples c.args.size.now) c.args.seed c.records._place c.args.count
+  first_in_front (g.C.MapClass.choice_limits c.args.size.now) (g.C.MapClass.samples c.args.size.now) c.records_go_on.ensures c.args.seed c.records._place c.args.count
       (g.O.Sink.holds c.args.out.now) (g.O.Sink.holds c.records.out) (g.O.Sink.holds c.flush.new.self) (words_of c.records.rng) (omega arith)
       c.records.invariant.so_far c.flush.ensures.stays,
   subst (λ (f : ℕ). FaultsRose f (g.O.Sink.faults c.flush.new.self)) c.records.invariant.calm c.in-Err-flush.ensures.cause,
