@@ -25,7 +25,10 @@ fn more_edges_than_checked(rt: HostRuntime) -> Result<(), Fail> {
     let run = run_on(&rt, rt.alloc(), "check general", &text, NONE)?;
     assert_eq!(rt; run.status, 7);
     assert_eq!(rt; run.out.bytes(), b"".as_slice());
-    assert_eq!(rt; run.err.bytes(), b"planarmap: limit edges 2097153\n".as_slice());
+    assert_eq!(rt;
+        run.err.bytes(),
+        b"planarmap: limit edges 2097153\n".as_slice()
+    );
     Ok(())
 }
 
@@ -47,6 +50,9 @@ fn more_letters_than_taken(rt: HostRuntime) -> Result<(), Fail> {
     let run = run_on(&rt, rt.alloc(), "close eulerian", &text, NONE)?;
     assert_eq!(rt; run.status, 7);
     assert_eq!(rt; run.out.bytes(), b"".as_slice());
-    assert_eq!(rt; run.err.bytes(), b"planarmap: limit letters 8388608\n".as_slice());
+    assert_eq!(rt;
+        run.err.bytes(),
+        b"planarmap: limit letters 8388608\n".as_slice()
+    );
     Ok(())
 }
