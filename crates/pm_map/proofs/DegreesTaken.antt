@@ -9,7 +9,7 @@ use Rattle.pm_map.specs.Classes.{degree_of, vertices_of_degree}
 use Rattle.pm_map.proofs.TableLemmas.{with_darts, times_vertices}
 
 -- one passes, where some do
-one_passes : (P : ℕ → Bool) (n : ℕ) → 0 < count_below P n → (k : ℕ) × (k < n) × (P k ≡ true)
+pub one_passes : (P : ℕ → Bool) (n : ℕ) → 0 < count_below P n → (k : ℕ) × (k < n) × (P k ≡ true)
 one_passes P zero some = absurd (omega arith)
 one_passes P (suc n) some = elim (cases_Bool (P n)) [
   | inl passes ↦ (n, omega arith, passes)
@@ -19,7 +19,7 @@ one_passes P (suc n) some = elim (cases_Bool (P n)) [
   earlier count b fails some = let e : count + (if b then 1 else 0) ≡ count + 0 = ap (λ (c : Bool). count + (if c then 1 else 0)) fails in omega (arith, some, e)
 
 -- some pass, where one does
-some_pass : (P : ℕ → Bool) (k n : ℕ) → k < n → P k ≡ true → 0 < count_below P n
+pub some_pass : (P : ℕ → Bool) (k n : ℕ) → k < n → P k ≡ true → 0 < count_below P n
 some_pass P k n less passes =
     let grows = count_below-grows P (suc k) n (omega arith) in
     let here : count_below P (suc k) ≡ count_below P k + 1 = rw passes refl in

@@ -8,6 +8,8 @@ pub mod DegreeCounts
 pub mod DegreeRules
 pub mod DegreeTotals
 pub mod DegreesTaken
+pub mod DistanceLemmas
+pub mod DistanceRounds
 pub mod EulerLemmas
 pub mod FaceWalkLemmas
 pub mod MarksLemmas

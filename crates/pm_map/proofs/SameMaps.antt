@@ -35,7 +35,8 @@ carries_on f g a b c one two =
 pub same_transitive : (a b c : Structure) → Same a b → Same b c → Same a c
 same_transitive a b c one two = (λ d. two.0 (one.0 d), carries_on one.0 two.0 a b c one.1 two.1)
 
-carries_back : (f : ℕ → ℕ) (a b : Structure) → IsStructure a → CarriesTo f a b → CarriesTo (place_of f a.darts) b a
+-- the inverse renumbering carries back
+pub carries_back : (f : ℕ → ℕ) (a b : Structure) → IsStructure a → CarriesTo f a b → CarriesTo (place_of f a.darts) b a
 carries_back f a b structure carries =
     let p : IsPermutationBelow a.darts f = carries.renumbers in
     let within : (d : ℕ) → d < b.darts → d < a.darts = λ d h. subst (λ n. d < n) (sym carries.darts) h in

@@ -1,5 +1,5 @@
 -- How far a face is from another, over edges. A face is told by any of its darts.
-use Rattle.std.specs.Prelude.{◌≡◌, ℕ, ◌<◌, ◌≤◌, List, [], ◌∷◌, length}
+use Rattle.std.specs.Prelude.{◌≡◌, ℕ, suc, ◌<◌, ◌≤◌, List, [], ◌∷◌, length}
 use Rattle.pm_perm.specs.Cycles.{IsInCycle}
 use Rattle.pm_map.specs.Structure.{Structure, face_next}
 
@@ -19,3 +19,12 @@ pub record IsFaceDistance (s : Structure) (d e distance : ℕ) : Type 0 where
   pub leads : LeadsOver s d e over
   pub counted : length over ≡ distance
   pub least : (others : List ℕ) → LeadsOver s d e others → distance ≤ length others
+
+-- Levels of the faces, a number for each dart: the same around each face, 0 on the root's face and on no other, at most
+-- one more or less across an edge, and on each other face some dart has a twin that is one lower.
+pub record AreFaceLevels (s : Structure) (level : ℕ → ℕ) : Type 0 where
+  pub around : (d : ℕ) → d < s.darts → level (face_next s d) ≡ level d
+  pub root : 0 < s.darts → level s.root ≡ 0
+  pub lowest : (d : ℕ) → d < s.darts → level d ≡ 0 → AreInOneFace s s.root d
+  pub across : (d : ℕ) → d < s.darts → level (s.twin d) ≤ suc (level d)
+  pub nearer : (d : ℕ) → d < s.darts → 0 < level d → (e : ℕ) × (e < s.darts) × AreInOneFace s d e × (suc (level (s.twin e)) ≡ level e)

@@ -6,6 +6,7 @@ pub mod Classes
 pub mod CycleSize
 pub mod DegreeScan
 pub mod DegreeTable
+pub mod DistanceLaws
 pub mod Ends
 pub mod FaceDistance
 pub mod FaceWalk

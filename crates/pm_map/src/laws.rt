@@ -1,5 +1,6 @@
 ghost use Rattle.pm_map.specs.CanonicalLaws.{CanonicalIsRooted, CanonicalIsUnique, CanonicalTellsMaps};
 ghost use Rattle.pm_map.specs.ClassLaws.{DegreeCountsDarts};
+ghost use Rattle.pm_map.specs.DistanceLaws.{LevelsAreDistances, EachFaceHasDistance, DistancesAreCarried};
 ghost use Rattle.pm_map.specs.Parts.{HasOneMapAnswer};
 
 /// What canonical maps are for, as a law to call upon; nothing is computed. The canonical map of a rooted map is a rooted
@@ -21,4 +22,13 @@ pub fn map_answer_is_unique()
 /// nothing is computed.
 pub fn degree_counts_darts()
     ensures { DegreeCountsDarts }
+{}
+
+/// What face distances are, as a law to call upon; nothing is computed. Numbers for the darts are levels of the faces
+/// exactly where they are the distances from the root's face; in a connected structure each face has such a distance;
+/// and a renumbering of the darts keeps the distances.
+pub fn face_levels_are_distances()
+    ensures levels { LevelsAreDistances }
+    ensures each { EachFaceHasDistance }
+    ensures carried { DistancesAreCarried }
 {}

@@ -21,7 +21,9 @@ pub use admitted::Degrees;
 pub use class_refusal::ClassRefusal;
 pub use counting::Counts;
 pub use face_walk::FaceWalk;
-pub use laws::{canonical_is_unique, degree_counts_darts, map_answer_is_unique};
+pub use laws::{
+    canonical_is_unique, degree_counts_darts, face_levels_are_distances, map_answer_is_unique,
+};
 pub use refusal::MapRefusal;
 pub use rooted_map::RootedMap;
 
