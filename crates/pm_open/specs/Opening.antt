@@ -1,0 +1,22 @@
+-- The opening of a map (Schaeffer 1997): the balanced tree whose closure it is, up to the names of darts.
+use Rattle.std.specs.Prelude.{ℕ, ◌<◌, List}
+use Rattle.pm_trees.specs.Node.{IsDegree}
+use Rattle.pm_trees.specs.Word.{contour}
+use Rattle.pm_trees.specs.Blossoming.{IsBlossoming}
+use Rattle.pm_match.specs.Pair.{IsBalanced}
+use Rattle.pm_map.specs.Structure.{Structure, Same}
+use Rattle.pm_map.specs.Rotation.{RotationSystem, structure_of}
+use Rattle.pm_map.specs.CycleSize.{IsCycleSize}
+use Rattle.pm_close.specs.Closure.{IsClosed}
+
+-- the word of a balanced tree whose closure is the same as the map
+pub record IsOpening (map : RotationSystem) (word : List ℕ) : Type 0 where
+  pub blossoming : IsBlossoming word
+  pub balanced : IsBalanced (contour word)
+  pub closure : RotationSystem
+  pub is_closure : IsClosed (contour word) closure
+  pub same : Same (structure_of map) (structure_of closure)
+
+-- each vertex has an even degree within the limit
+abbrev pub HasEvenDegrees : Structure → Type 0
+HasEvenDegrees s = (d degree : ℕ) → d < s.darts → IsCycleSize s.next d degree → IsDegree degree
