@@ -13,7 +13,7 @@ use Rattle.pm_map.specs.CycleSize.{IsCycleSize}
 use Rattle.pm_map.specs.ClassLaws.{DegreeCountsDarts}
 
 -- some more times around a cycle lead to the same number
-rounds : (f : ℕ → ℕ) (d size : ℕ) → repeated f size d ≡ d → (times steps : ℕ) → repeated f (steps + times * size) d ≡ repeated f steps d
+pub rounds : (f : ℕ → ℕ) (d size : ℕ) → repeated f size d ≡ d → (times steps : ℕ) → repeated f (steps + times * size) d ≡ repeated f steps d
 rounds f d size back zero steps = ap (λ k. repeated f k d) (let e : steps + 0 * size ≡ steps = omega arith in e)
 rounds f d size back (suc times) steps =
     let more : steps + suc times * size ≡ steps + times * size + size = omega arith in

@@ -2,7 +2,7 @@
 use Rattle.std.proofs.Common.{◌≡◌, ℕ, zero, suc, ◌+◌, ◌<◌, ◌≤◌, List, [], ◌∷◌, ◌++◌, length, map, refl, sym, ap, ◌∙◌, subst, length-append, arith}
 use Rattle.std.proofs.lemmas.List.{length-map}
 use Rattle.pm_perm.specs.Cycles.{repeated}
-use Rattle.pm_perm.proofs.InverseLemmas.{place_of, place_of-of_value}
+use Rattle.pm_perm.proofs.InverseLemmas.{place_of, place_of-stays, place_of-of_value, value-place_of}
 use Rattle.pm_perm.proofs.Repeats.{repeated-inside}
 use Rattle.pm_perm.proofs.SameCycle.{in_cycle-through, in_cycle-back}
 use Rattle.pm_map.specs.Structure.{Structure, IsStructure, CarriesTo, face_next}
@@ -54,7 +54,7 @@ led_last s a d first (dart ∷ over) leads =
     }
 
 -- levels are the same around a face
-levels-around : (s : Structure) (level : ℕ → ℕ) → IsStructure s → AreFaceLevels s level → (d e : ℕ) → d < s.darts → AreInOneFace s d e → level e ≡ level d
+pub levels-around : (s : Structure) (level : ℕ → ℕ) → IsStructure s → AreFaceLevels s level → (d e : ℕ) → d < s.darts → AreInOneFace s d e → level e ≡ level d
 levels-around s level is levels d e h one = ap level (sym one.leads) ∙ along s level is levels d h one.steps where
   along : (s : Structure) (level : ℕ → ℕ) → IsStructure s → AreFaceLevels s level → (d : ℕ) → d < s.darts → (steps : ℕ) → level (repeated (face_next s) steps d) ≡ level d
   along s level is levels d h zero = refl
@@ -200,3 +200,19 @@ distances_are_carried a b f isa isb carries d e distance hd he is =
           let to_e : LeadsOver a d e (map (place_of f a.darts) others) = subst (λ x. LeadsOver a d x (map (place_of f a.darts) others)) second from_d in
           omega (arith, is.least (map (place_of f a.darts) others) to_e, length-map others (place_of f a.darts));
     }
+
+-- and the levels
+pub levels_carried : (f : ℕ → ℕ) (a b : Structure) (level other : ℕ → ℕ) → IsStructure a → IsStructure b → CarriesTo f a b
+    → AreFaceLevels a level → ((d : ℕ) → d < a.darts → other (f d) ≡ level d) → AreFaceLevels b other
+levels_carried f a b level other isa isb carries levels same = levels_from_distances b other isb (record {
+  distance = λ e h.
+      let within : e < a.darts = subst (λ n. e < n) (sym carries.darts) h in
+      let some : 0 < a.darts = omega (arith, within) in
+      let d : ℕ = place_of f a.darts e in
+      let below : d < a.darts = place_of-stays f a.darts e carries.renumbers within in
+      let dart : f d ≡ e = value-place_of f a.darts e carries.renumbers within in
+      let there : IsFaceDistance b (f a.root) (f d) (level d) =
+      distances_are_carried a b f isa isb carries a.root d (level d) (isa.root_stays some) below (distance_from_levels a level isa levels d below) in
+      subst (λ k. IsFaceDistance b b.root e k) (sym (same d below) ∙ ap other dart)
+      (subst (λ x. IsFaceDistance b b.root x (level d)) dart (subst (λ x. IsFaceDistance b x (f d) (level d)) (carries.root some) there));
+})

@@ -1,0 +1,176 @@
+-- Edges that are cut, the walk along the others, and a choice of the edges that is settled where the walk meets each first.
+use Rattle.std.proofs.Common.{◌≡◌, ◌≢◌, ℕ, zero, suc, ◌<◌, inl, inr, Bool, true, false, ◌||◌, cond, eqb, refl, sym, ap, ◌∙◌, subst, eq-eqb, ne_eqb, arith}
+use Rattle.std.proofs.lemmas.Bool.{cases_Bool, cases_eq, cond-true, cond-false, or_left, or_right, or_from}
+use Rattle.pm_perm.specs.Permutation.{IsPermutationBelow}
+use Rattle.pm_perm.specs.Cycles.{repeated}
+use Rattle.pm_perm.specs.Pairs.{IsInvolutionBelow}
+use Rattle.pm_perm.proofs.Permutations.{reached_or_not}
+use Rattle.pm_perm.proofs.PartPairs.{involution-permutes}
+use Rattle.pm_perm.proofs.Renumbered.{product-permutes}
+use Rattle.pm_perm.proofs.Repeats.{repeated-inside}
+use Rattle.pm_map.specs.Structure.{Structure, IsStructure}
+use Rattle.pm_open.specs.Walked.{is_up}
+
+-- edges that are cut, told by a test of darts that says the same of twins
+pub record IsCutting (s : Structure) (cut : ℕ → Bool) : Type 0 where
+  pub both : (d : ℕ) → d < s.darts → cut (s.twin d) ≡ cut d
+
+-- the dart itself where its edge is cut, and else its twin
+abbrev pub across_by : Structure → (ℕ → Bool) → ℕ → ℕ
+across_by s cut d = cond (cut d) d (s.twin d)
+
+-- the walk goes on to the next dart behind that
+abbrev pub step_by : Structure → (ℕ → Bool) → ℕ → ℕ
+step_by s cut d = s.next (across_by s cut d)
+
+-- the dart of the walk from the root after so many steps
+abbrev pub dart_after : Structure → (ℕ → Bool) → ℕ → ℕ
+dart_after s cut steps = repeated (step_by s cut) steps s.root
+
+pub step_by-cut : (s : Structure) (cut : ℕ → Bool) (d : ℕ) → cut d ≡ true → step_by s cut d ≡ s.next d
+step_by-cut s cut d is = ap s.next (cond-true (cut d) d (s.twin d) is)
+
+pub step_by-kept : (s : Structure) (cut : ℕ → Bool) (d : ℕ) → cut d ≡ false → step_by s cut d ≡ s.next (s.twin d)
+step_by-kept s cut d is = ap s.next (cond-false (cut d) d (s.twin d) is)
+
+across_by-involutes : (s : Structure) (cut : ℕ → Bool) → IsStructure s → IsCutting s cut → IsInvolutionBelow s.darts (across_by s cut)
+across_by-involutes s cut is cutting = record {
+  stays = λ d h. elim (cases_Bool (cut d)) [
+    | inl cuts ↦ subst (λ x. x < s.darts) (sym (cond-true (cut d) d (s.twin d) cuts)) h
+    | inr kept ↦ subst (λ x. x < s.darts) (sym (cond-false (cut d) d (s.twin d) kept)) (is.twin_stays d h)
+  ];
+  twice = λ d h. elim (cases_Bool (cut d)) [
+    | inl cuts ↦ ap (across_by s cut) (cond-true (cut d) d (s.twin d) cuts) ∙ cond-true (cut d) d (s.twin d) cuts
+    | inr kept ↦
+        ap (across_by s cut) (cond-false (cut d) d (s.twin d) kept)
+        ∙ cond-false (cut (s.twin d)) (s.twin d) (s.twin (s.twin d)) (cutting.both d h ∙ kept) ∙ is.twin_back d h
+  ];
+}
+
+-- so no two darts are followed by one
+pub step_by-permutes : (s : Structure) (cut : ℕ → Bool) → IsStructure s → IsCutting s cut → IsPermutationBelow s.darts (step_by s cut)
+step_by-permutes s cut is cutting =
+    product-permutes s.darts (step_by s cut) s.next (across_by s cut) is.rotation
+    (involution-permutes s.darts (across_by s cut) (across_by-involutes s cut is cutting)) (record { value = λ k h. refl })
+
+-- Where the walk meets an edge first, within so many steps, the edge is cut exactly where the face beyond is one further
+-- from the root's face.
+pub record IsDecided (s : Structure) (level : ℕ → ℕ) (cut : ℕ → Bool) (count : ℕ) : Type 0 where
+  pub decided : (j : ℕ) → j < count → ((i : ℕ) → i < j → dart_after s cut i ≢ s.twin (dart_after s cut j))
+      → cut (dart_after s cut j) ≡ is_up s level (dart_after s cut j)
+
+decided_more : (s : Structure) (level : ℕ → ℕ) (cut : ℕ → Bool) (count : ℕ) → IsDecided s level cut count
+    → (((i : ℕ) → i < count → dart_after s cut i ≢ s.twin (dart_after s cut count)) → cut (dart_after s cut count) ≡ is_up s level (dart_after s cut count))
+    → IsDecided s level cut (suc count)
+decided_more s level cut count before here = record {
+  decided = λ j h. elim (cases_eq j count) [
+    | inl same ↦
+        subst (λ k. ((i : ℕ) → i < k → dart_after s cut i ≢ s.twin (dart_after s cut k)) → cut (dart_after s cut k) ≡ is_up s level (dart_after s cut k)) (sym same) here
+    | inr differs ↦ before.decided j (omega (arith, h, differs))
+  ];
+}
+
+-- the edge of one dart decided anew
+recut : Structure → (ℕ → ℕ) → (ℕ → Bool) → ℕ → ℕ → Bool
+recut s level cut dart d = cond (eqb d dart || eqb d (s.twin dart)) (is_up s level dart) (cut d)
+
+recut-here : (s : Structure) (level : ℕ → ℕ) (cut : ℕ → Bool) (dart d : ℕ) → d ≡ dart → recut s level cut dart d ≡ is_up s level dart
+unfolding recut
+recut-here s level cut dart d same =
+    cond-true (eqb d dart || eqb d (s.twin dart)) (is_up s level dart) (cut d) (or_left (eqb d dart) (eqb d (s.twin dart)) (eq-eqb d dart same))
+
+recut-twin : (s : Structure) (level : ℕ → ℕ) (cut : ℕ → Bool) (dart d : ℕ) → d ≡ s.twin dart → recut s level cut dart d ≡ is_up s level dart
+unfolding recut
+recut-twin s level cut dart d same =
+    cond-true (eqb d dart || eqb d (s.twin dart)) (is_up s level dart) (cut d) (or_right (eqb d dart) (eqb d (s.twin dart)) (eq-eqb d (s.twin dart) same))
+
+recut-other : (s : Structure) (level : ℕ → ℕ) (cut : ℕ → Bool) (dart d : ℕ) → d ≢ dart → d ≢ s.twin dart → recut s level cut dart d ≡ cut d
+unfolding recut
+recut-other s level cut dart d one two =
+    cond-false (eqb d dart || eqb d (s.twin dart)) (is_up s level dart) (cut d)
+    (or_from (eqb d dart) (eqb d (s.twin dart)) (ne_eqb d dart one) (ne_eqb d (s.twin dart) two))
+
+recut-cuts : (s : Structure) (level : ℕ → ℕ) (cut : ℕ → Bool) (dart : ℕ) → IsStructure s → dart < s.darts → IsCutting s cut → IsCutting s (recut s level cut dart)
+recut-cuts s level cut dart is below cutting = record {
+  both = λ d h. elim (cases_eq d dart) [
+    | inl same ↦ recut-twin s level cut dart (s.twin d) (ap s.twin same) ∙ sym (recut-here s level cut dart d same)
+    | inr one ↦ elim (cases_eq d (s.twin dart)) [
+      | inl same ↦ recut-here s level cut dart (s.twin d) (ap s.twin same ∙ is.twin_back dart below) ∙ sym (recut-twin s level cut dart d same)
+      | inr two ↦
+          recut-other s level cut dart (s.twin d) (λ e. two (sym (is.twin_back d h) ∙ ap s.twin e)) (λ e. one (sym (is.twin_back d h) ∙ ap s.twin e ∙ is.twin_back dart below))
+          ∙ cutting.both d h ∙ sym (recut-other s level cut dart d one two)
+    ]
+  ];
+}
+
+-- the walk is the same as far as it meets edges that are cut alike
+dart_after-same : (s : Structure) (cut other : ℕ → Bool) (steps : ℕ) → ((i : ℕ) → i < steps → other (dart_after s cut i) ≡ cut (dart_after s cut i)) → dart_after s other steps ≡ dart_after s cut steps
+dart_after-same s cut other zero same = refl
+dart_after-same s cut other (suc steps) same =
+    let before : dart_after s other steps ≡ dart_after s cut steps = dart_after-same s cut other steps (λ i h. same i (omega arith)) in
+    let x : ℕ = dart_after s cut steps in
+    ap (step_by s other) before ∙ ap (λ b. s.next (cond b x (s.twin x))) (same steps (omega arith))
+
+-- a choice of the edges that is decided within so many steps
+pub record HasCut (s : Structure) (level : ℕ → ℕ) (count : ℕ) : Type 0 where
+  pub cut : ℕ → Bool
+  pub cutting : IsCutting s cut
+  pub decided : IsDecided s level cut count
+
+-- an edge that the walk meets first after these steps is decided there
+decided_anew : (s : Structure) (level : ℕ → ℕ) (count : ℕ) (c : HasCut s level count) → IsStructure s → dart_after s c.cut count < s.darts
+    → ((i : ℕ) → i < count → dart_after s c.cut i ≢ dart_after s c.cut count) → ((i : ℕ) → i < count → dart_after s c.cut i ≢ s.twin (dart_after s c.cut count))
+    → HasCut s level (suc count)
+decided_anew s level count c is below new apart =
+    let dart : ℕ = dart_after s c.cut count in
+    let other : ℕ → Bool = recut s level c.cut dart in
+    let alike : (i : ℕ) → i < count → recut s level c.cut dart (dart_after s c.cut i) ≡ c.cut (dart_after s c.cut i) = λ i h.
+    recut-other s level c.cut dart (dart_after s c.cut i) (new i h) (apart i h) in
+    let same : (i : ℕ) → i < suc count → dart_after s (recut s level c.cut dart) i ≡ dart_after s c.cut i = λ i h.
+    dart_after-same s c.cut (recut s level c.cut dart) i (λ j less. alike j (omega arith)) in
+    record {
+      cut = other;
+      cutting = recut-cuts s level c.cut dart is below c.cutting;
+      decided = record {
+        decided = λ j h fresh.
+            let there : dart_after s (recut s level c.cut dart) j ≡ dart_after s c.cut j = same j h in
+            subst (λ x. recut s level c.cut dart x ≡ is_up s level x) (sym there)
+            (elim (cases_eq j count) [
+              | inl last ↦
+                  let at : dart_after s c.cut j ≡ dart = ap (dart_after s c.cut) last in
+                  recut-here s level c.cut dart (dart_after s c.cut j) at ∙ ap (is_up s level) (sym at)
+              | inr differs ↦
+                  let less : j < count = omega (arith, h, differs) in
+                  alike j less ∙ c.decided.decided j less (λ i earlier e. fresh i earlier (same i (omega arith) ∙ e ∙ ap s.twin (sym there)))
+            ]);
+      };
+    }
+
+pub has_cut : (s : Structure) (level : ℕ → ℕ) → IsStructure s → 0 < s.darts → (count : ℕ) → HasCut s level count
+has_cut s level is some zero = record {
+  cut = λ d. true;
+  cutting = record { both = λ d h. refl };
+  decided = record { decided = λ j h. absurd (omega arith) };
+}
+has_cut s level is some (suc count) =
+    let c : HasCut s level count = has_cut s level is some count in
+    let dart : ℕ = dart_after s c.cut count in
+    let below : dart < s.darts = repeated-inside (step_by s c.cut) s.darts (step_by-permutes s c.cut is c.cutting) count s.root (is.root_stays some) in
+    elim (reached_or_not (dart_after s c.cut) count dart) [
+      | inl again ↦ record {
+        cut = c.cut;
+        cutting = c.cutting;
+        decided = decided_more s level c.cut count c.decided
+            (λ fresh.
+            (let less : again.from < count = again.below in
+            subst (λ x. c.cut x ≡ is_up s level x) again.value (c.decided.decided again.from less (λ i earlier e. fresh i (omega arith) (e ∙ ap s.twin again.value)))));
+      }
+      | inr new ↦ elim (reached_or_not (dart_after s c.cut) count (s.twin dart)) [
+        | inl met ↦ record {
+          cut = c.cut;
+          cutting = c.cutting;
+          decided = decided_more s level c.cut count c.decided (λ fresh. absurd (fresh met.from met.below met.value));
+        }
+        | inr apart ↦ decided_anew s level count c is below new apart
+      ]
+    ]
