@@ -7,17 +7,10 @@ use Rattle.pm_perm.specs.Cycles.{repeated, leader, IsInCycle}
 use Rattle.pm_perm.proofs.Counts.{count_below-into, count_below-all}
 use Rattle.pm_perm.proofs.InverseLemmas.{place_of, place_of-value}
 use Rattle.pm_perm.proofs.Permutations.{IsReached}
-use Rattle.pm_perm.proofs.Repeats.{repeated-inside, repeated-add, repeated-back, HasPeriod, period}
+use Rattle.pm_perm.proofs.Repeats.{repeated-inside, repeated-back, rounds, HasPeriod, period}
 use Rattle.pm_perm.proofs.SameCycle.{in_cycle-leader, leader-in_cycle}
 use Rattle.pm_map.specs.CycleSize.{IsCycleSize}
 use Rattle.pm_map.specs.ClassLaws.{DegreeCountsDarts}
-
--- some more times around a cycle lead to the same number
-pub rounds : (f : ℕ → ℕ) (d size : ℕ) → repeated f size d ≡ d → (times steps : ℕ) → repeated f (steps + times * size) d ≡ repeated f steps d
-rounds f d size back zero steps = ap (λ k. repeated f k d) (let e : steps + 0 * size ≡ steps = omega arith in e)
-rounds f d size back (suc times) steps =
-    let more : steps + suc times * size ≡ steps + times * size + size = omega arith in
-    ap (λ k. repeated f k d) more ∙ sym (repeated-add f (steps + times * size) size d) ∙ ap (repeated f (steps + times * size)) back ∙ rounds f d size back times steps
 
 -- what is met is met in fewer steps than the size
 met_within : (f : ℕ → ℕ) (d size e : ℕ) → IsCycleSize f d size → IsInCycle f d e → IsReached (λ k. repeated f k d) size e

@@ -1,29 +1,12 @@
 -- Which degrees are taken: a degree has a vertex where it has a dart. The darts at vertices below a degree.
-use Rattle.std.proofs.Common.{◌≡◌, ℕ, zero, suc, ◌+◌, ◌*◌, ◌<◌, ◌≤◌, ◌&&◌, Bool, true, false, inl, inr, nat_eq, ltb, if◌then◌else◌, refl, sym, ◌∙◌, ap, arith}
-use Rattle.std.proofs.lemmas.Bool.{cases_eq, cases_lt, cases_Bool, eq-eqb, ne_eqb, eqb-true, lt-ltb, le-ltb}
+use Rattle.std.proofs.Common.{◌≡◌, ℕ, zero, suc, ◌+◌, ◌*◌, ◌<◌, ◌≤◌, ◌&&◌, Bool, true, false, inl, inr, nat_eq, ltb, refl, sym, ◌∙◌, arith}
+use Rattle.std.proofs.lemmas.Bool.{cases_eq, cases_lt, eq-eqb, ne_eqb, eqb-true, lt-ltb, le-ltb}
 use Rattle.pm_perm.specs.Count.{count_below}
 use Rattle.pm_perm.specs.Cycles.{leader}
-use Rattle.pm_perm.proofs.Counts.{count_below-bound, count_below-grows, count_below-split}
+use Rattle.pm_perm.proofs.Counts.{count_below-bound, count_below-split, one_passes, some_pass}
 use Rattle.pm_map.specs.Structure.{Structure, IsStructure}
 use Rattle.pm_map.specs.Classes.{degree_of, vertices_of_degree}
 use Rattle.pm_map.proofs.TableLemmas.{with_darts, times_vertices}
-
--- one passes, where some do
-pub one_passes : (P : ℕ → Bool) (n : ℕ) → 0 < count_below P n → (k : ℕ) × (k < n) × (P k ≡ true)
-one_passes P zero some = absurd (omega arith)
-one_passes P (suc n) some = elim (cases_Bool (P n)) [
-  | inl passes ↦ (n, omega arith, passes)
-  | inr fails ↦ (let rest = one_passes P n (earlier (count_below P n) (P n) fails some) in (rest.0, (let l = rest.1 in omega (arith, l)), rest.2))
-] where
-  earlier : (count : ℕ) (b : Bool) → b ≡ false → 0 < count + (if b then 1 else 0) → 0 < count
-  earlier count b fails some = let e : count + (if b then 1 else 0) ≡ count + 0 = ap (λ (c : Bool). count + (if c then 1 else 0)) fails in omega (arith, some, e)
-
--- some pass, where one does
-pub some_pass : (P : ℕ → Bool) (k n : ℕ) → k < n → P k ≡ true → 0 < count_below P n
-some_pass P k n less passes =
-    let grows = count_below-grows P (suc k) n (omega arith) in
-    let here : count_below P (suc k) ≡ count_below P k + 1 = rw passes refl in
-    omega (arith, grows, here)
 
 -- the degree of a dart's vertex is taken
 pub dart_takes : (s : Structure) (d : ℕ) → IsStructure s → d < s.darts → 0 < vertices_of_degree s (degree_of s d)

@@ -3,13 +3,12 @@ use Rattle.std.proofs.Common.{◌≡◌, ℕ, zero, suc, ◌+◌, ◌<◌, ◌�
 use Rattle.std.proofs.lemmas.Bool.{cases_Bool, cases_lt, cases_eq, true≢false, ltb-true, eqb-true, and_parts, and_from, or_cases, or_left, or_right}
 use Rattle.pm_perm.specs.Count.{count_below}
 use Rattle.pm_perm.specs.Cycles.{leader}
-use Rattle.pm_perm.proofs.Counts.{count_below-bound, count_below-split}
+use Rattle.pm_perm.proofs.Counts.{count_below-bound, count_below-split, one_passes, some_pass}
 use Rattle.pm_perm.proofs.SameCycle.{in_cycle-leader, leader-in_cycle}
 use Rattle.pm_map.specs.Structure.{Structure, IsStructure, IsClosedSet, IsConnected, face_next}
 use Rattle.pm_map.specs.FaceDistance.{AreInOneFace, LeadsOver, IsFaceDistance}
 use Rattle.pm_map.specs.DistanceLaws.{EachFaceHasDistance}
 use Rattle.pm_map.proofs.CarriedStructure.{face_permutes}
-use Rattle.pm_map.proofs.DegreesTaken.{one_passes, some_pass}
 use Rattle.pm_map.proofs.DistanceLemmas.{leads-around, leads-on}
 
 -- tests of which each passes what the one before it passes

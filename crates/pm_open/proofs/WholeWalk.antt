@@ -1,30 +1,15 @@
 -- The walk meets every dart.
-use Rattle.std.proofs.Common.{◌≡◌, ℕ, zero, suc, ◌+◌, ◌*◌, ◌/◌, ◌%◌, ◌<◌, ◌≤◌, ◌⊎◌, inl, inr, max, Bool, true, refl, sym, ap, ◌∙◌, subst, eq-eqb, arith}
+use Rattle.std.proofs.Common.{◌≡◌, ℕ, zero, suc, ◌+◌, ◌<◌, ◌≤◌, ◌⊎◌, inl, inr, max, Bool, true, refl, sym, ap, ◌∙◌, subst, eq-eqb, arith}
 use Rattle.std.proofs.lemmas.Bool.{cases_Bool, cases_eq, eqb-true}
-use Rattle.pm_perm.specs.Permutation.{IsPermutationBelow}
 use Rattle.pm_perm.specs.Cycles.{repeated, IsInCycle}
 use Rattle.pm_perm.proofs.Permutations.{IsReached, reached_or_not}
-use Rattle.pm_perm.proofs.Repeats.{repeated-inside, HasPeriod, period}
+use Rattle.pm_perm.proofs.Repeats.{repeated-inside}
+use Rattle.pm_perm.proofs.SameCycle.{in_cycle-reached}
 use Rattle.pm_map.specs.Structure.{Structure, IsStructure, face_next}
 use Rattle.pm_map.specs.FaceDistance.{AreInOneFace, AreFaceLevels}
-use Rattle.pm_map.proofs.DegreeCounts.{rounds}
 use Rattle.pm_map.proofs.DistanceLemmas.{face_back, face_below, levels-around}
 use Rattle.pm_open.specs.Walked.{is_up}
 use Rattle.pm_open.proofs.Cutting.{IsCutting, IsDecided, step_by, dart_after, step_by-cut, step_by-kept, step_by-permutes}
-
--- what is met by repeating a permutation below a bound is met in fewer steps than the bound
-pub met_below : (n : ℕ) (f : ℕ → ℕ) (d e : ℕ) → IsPermutationBelow n f → d < n → IsInCycle f d e → IsReached (λ k. repeated f k d) n e
-met_below n f d e p h met =
-    let round : HasPeriod f n d = period f n d p h in
-    let size : ℕ = suc round.fewer in
-    let within : round.fewer < n = round.within in
-    let whole : met.steps ≡ met.steps % size + met.steps / size * size = omega arith in
-    let less : met.steps % size < size = omega arith in
-    record {
-      from = met.steps % size;
-      below = omega (arith, less, within);
-      value = sym (rounds f d size round.returns (met.steps / size) (met.steps % size)) ∙ ap (λ k. repeated f k d) (sym whole) ∙ met.leads;
-    }
 
 -- numbers below a bound have a greatest value
 greatest : (f : ℕ → ℕ) (n : ℕ) → (top : ℕ) × ((k : ℕ) → k < n → f k ≤ top)
@@ -61,7 +46,7 @@ met_next s cut d e m goes = record { met = record { steps = suc m.met.steps; lea
 
 pub met_reached : (s : Structure) (level : ℕ → ℕ) (cut : ℕ → Bool) → IsDecidedWalk s level cut → (d : ℕ) → IsMet s cut d → IsReached (dart_after s cut) s.darts d
 met_reached s level cut w d m =
-    met_below s.darts (step_by s cut) s.root d (step_by-permutes s cut w.structure w.cutting) (w.structure.root_stays w.some) m.met
+    in_cycle-reached s.darts (step_by s cut) s.root d (step_by-permutes s cut w.structure w.cutting) (w.structure.root_stays w.some) m.met
 
 -- an edge that is met is cut as its dart that is met says, or its other dart is met too
 met_decided : (s : Structure) (level : ℕ → ℕ) (cut : ℕ → Bool) → IsDecidedWalk s level cut → (d : ℕ) → IsMet s cut d → (cut d ≡ is_up s level d) ⊎ IsMet s cut (s.twin d)

@@ -1,6 +1,6 @@
 -- Counts of the numbers below a bound.
-use Rattle.std.proofs.Common.{◌≡◌, ◌≢◌, ℕ, zero, suc, ◌+◌, ◌<◌, ◌≤◌, Bool, true, false, ◌⊎◌, not, ◌&&◌, cond, eqb, refl, inl, inr, arith}
-use Rattle.std.proofs.lemmas.Bool.{cases_eq}
+use Rattle.std.proofs.Common.{◌≡◌, ◌≢◌, ℕ, zero, suc, ◌+◌, ◌<◌, ◌≤◌, Bool, true, false, ◌⊎◌, not, ◌&&◌, cond, eqb, if◌then◌else◌, refl, ap, inl, inr, arith}
+use Rattle.std.proofs.lemmas.Bool.{cases_eq, cases_Bool}
 use Rattle.pm_perm.specs.Count.{count_below}
 
 -- tests that agree below the bound count alike
@@ -67,6 +67,23 @@ count_below-grows P m (suc n) h = elim (cases_eq m (suc n)) [
 ] where
   grows_step : (P : ℕ → Bool) (m n : ℕ) → count_below P m ≤ count_below P n → count_below P m ≤ count_below P (suc n)
   grows_step P m n h = grind arith
+
+-- one passes, where some do
+pub one_passes : (P : ℕ → Bool) (n : ℕ) → 0 < count_below P n → (k : ℕ) × (k < n) × (P k ≡ true)
+one_passes P zero some = absurd (omega arith)
+one_passes P (suc n) some = elim (cases_Bool (P n)) [
+  | inl passes ↦ (n, omega arith, passes)
+  | inr fails ↦ (let rest = one_passes P n (earlier (count_below P n) (P n) fails some) in (rest.0, (let l = rest.1 in omega (arith, l)), rest.2))
+] where
+  earlier : (count : ℕ) (b : Bool) → b ≡ false → 0 < count + (if b then 1 else 0) → 0 < count
+  earlier count b fails some = let e : count + (if b then 1 else 0) ≡ count + 0 = ap (λ (c : Bool). count + (if c then 1 else 0)) fails in omega (arith, some, e)
+
+-- some pass, where one does
+pub some_pass : (P : ℕ → Bool) (k n : ℕ) → k < n → P k ≡ true → 0 < count_below P n
+some_pass P k n less passes =
+    let grows = count_below-grows P (suc k) n (omega arith) in
+    let here : count_below P (suc k) ≡ count_below P k + 1 = rw passes refl in
+    omega (arith, grows, here)
 
 -- of two tests of which each number passes exactly one, all numbers pass one
 pub count_below-parts : (P Q : ℕ → Bool) (n : ℕ) → ((k : ℕ) → k < n → P k ≡ not (Q k)) → count_below P n + count_below Q n ≡ n

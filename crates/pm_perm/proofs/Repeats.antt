@@ -1,5 +1,5 @@
 -- What is met by repeating a permutation: each number is met again.
-use Rattle.std.proofs.Common.{◌≡◌, ℕ, zero, suc, ◌+◌, ◌-◌, ◌<◌, ◌≤◌, inl, inr, sym, ap, ◌∙◌, refl, min, arith}
+use Rattle.std.proofs.Common.{◌≡◌, ℕ, zero, suc, ◌+◌, ◌-◌, ◌*◌, ◌<◌, ◌≤◌, inl, inr, sym, ap, ◌∙◌, refl, min, arith}
 use Rattle.std.proofs.lemmas.Bool.{cases_eq, cases_lt, cases_order}
 use Rattle.pm_perm.specs.Permutation.{IsPermutationBelow}
 use Rattle.pm_perm.specs.Cycles.{repeated, least_met}
@@ -38,6 +38,13 @@ repeated-back n f i j d p h less e =
     let whole : i + (j - i) ≡ j = omega arith in
     let parts : repeated f j d ≡ repeated f i (repeated f (j - i) d) = ap (λ k. repeated f k d) (sym whole) ∙ sym (repeated-add f i (j - i) d) in
     repeated-injective f n p i (repeated f (j - i) d) d (repeated-inside f n p (j - i) d h) h (sym parts ∙ sym e)
+
+-- some more times around a cycle lead to the same number
+pub rounds : (f : ℕ → ℕ) (d size : ℕ) → repeated f size d ≡ d → (times steps : ℕ) → repeated f (steps + times * size) d ≡ repeated f steps d
+rounds f d size back zero steps = ap (λ k. repeated f k d) (let e : steps + 0 * size ≡ steps = omega arith in e)
+rounds f d size back (suc times) steps =
+    let more : steps + suc times * size ≡ steps + times * size + size = omega arith in
+    ap (λ k. repeated f k d) more ∙ sym (repeated-add f (steps + times * size) size d) ∙ ap (repeated f (steps + times * size)) back ∙ rounds f d size back times steps
 
 -- a number is met again after one to `size` steps
 pub record HasPeriod (f : ℕ → ℕ) (n d : ℕ) : Type 0 where

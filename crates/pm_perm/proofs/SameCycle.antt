@@ -1,9 +1,10 @@
 -- Two numbers are in one cycle of a permutation exactly where they have one leader; the cycle is the same from each of
 -- its numbers.
-use Rattle.std.proofs.Common.{◌≡◌, ℕ, zero, suc, ◌+◌, ◌<◌, ◌↔◌, sym, ap, ◌∙◌, refl, arith}
+use Rattle.std.proofs.Common.{◌≡◌, ℕ, zero, suc, ◌+◌, ◌*◌, ◌/◌, ◌%◌, ◌<◌, ◌↔◌, sym, ap, ◌∙◌, refl, arith}
 use Rattle.pm_perm.specs.Permutation.{IsPermutationBelow}
 use Rattle.pm_perm.specs.Cycles.{repeated, leader, cycles, IsInCycle, IsLeastInCycle}
-use Rattle.pm_perm.proofs.Repeats.{repeated-inside, repeated-first, repeated-add, HasPeriod, period}
+use Rattle.pm_perm.proofs.Permutations.{IsReached}
+use Rattle.pm_perm.proofs.Repeats.{repeated-inside, repeated-first, repeated-add, rounds, HasPeriod, period}
 use Rattle.pm_perm.proofs.LeaderMaps.{IsLeaderMap, repeated-kept, leader-map, leader_maps-agree, cycles-count, leader-is_least}
 
 -- what is met from what is met
@@ -26,6 +27,20 @@ pub in_cycle-back : (n : ℕ) (f : ℕ → ℕ) → IsPermutationBelow n f → (
 in_cycle-back n f p a b h c =
     let back : IsInCycle f (repeated f c.steps a) a = steps_back n f p c.steps a h in
     record { steps = back.steps; leads = ap (λ x. repeated f back.steps x) (sym c.leads) ∙ back.leads }
+
+-- what is met by repeating a permutation below a bound is met in fewer steps than the bound
+pub in_cycle-reached : (n : ℕ) (f : ℕ → ℕ) (d e : ℕ) → IsPermutationBelow n f → d < n → IsInCycle f d e → IsReached (λ k. repeated f k d) n e
+in_cycle-reached n f d e p h met =
+    let round : HasPeriod f n d = period f n d p h in
+    let size : ℕ = suc round.fewer in
+    let within : round.fewer < n = round.within in
+    let whole : met.steps ≡ met.steps % size + met.steps / size * size = omega arith in
+    let less : met.steps % size < size = omega arith in
+    record {
+      from = met.steps % size;
+      below = omega (arith, less, within);
+      value = sym (rounds f d size round.returns (met.steps / size) (met.steps % size)) ∙ ap (λ k. repeated f k d) (sym whole) ∙ met.leads;
+    }
 
 -- what is met has the same leader
 pub in_cycle-leader : (n : ℕ) (f : ℕ → ℕ) → IsPermutationBelow n f → (a b : ℕ) → a < n → IsInCycle f a b → leader n f a ≡ leader n f b
