@@ -1,6 +1,7 @@
 pub mod BothNested
 pub mod Cutting
 pub mod EvenCounts
+pub mod NestedEdges
 pub mod Opened
 pub mod Walks
 pub mod WholeWalk
