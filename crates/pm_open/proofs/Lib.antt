@@ -3,5 +3,6 @@ pub mod Cutting
 pub mod EvenCounts
 pub mod NestedEdges
 pub mod Opened
+pub mod Stretches
 pub mod Walks
 pub mod WholeWalk
