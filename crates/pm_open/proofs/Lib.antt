@@ -5,6 +5,7 @@ pub mod KeptEdges
 pub mod LevelsAlong
 pub mod NestedEdges
 pub mod Opened
+pub mod OpenedWalk
 pub mod Stretches
 pub mod Walks
 pub mod WholeWalk
