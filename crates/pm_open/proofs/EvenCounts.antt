@@ -1,6 +1,6 @@
 -- Counts that are even.
 use Rattle.std.proofs.Common.{◌≡◌, ℕ, zero, suc, ◌+◌, ◌%◌, ◌<◌, ◌≤◌, ◌&&◌, Bool, true, false, inl, inr, ltb, eqb, refl, sym, ◌∙◌, ap, arith}
-use Rattle.std.proofs.lemmas.Bool.{cases_eq, cases_lt, cases_order, cases_Bool, lt-ltb, le-ltb, ltb-true, eq-eqb, ne_eqb, eqb-true, and_parts, and_from, and_left, and_right, both_ways}
+use Rattle.std.proofs.lemmas.Bool.{cases_eq, cases_order, cases_Bool, lt-ltb, le-ltb, ltb-true, eq-eqb, ne_eqb, eqb-true, and_parts, and_from, and_left, and_right, both_ways}
 use Rattle.pm_perm.specs.Count.{count_below}
 use Rattle.pm_perm.proofs.Counts.{count_below-same, count_below-split, count_below-into}
 
@@ -39,14 +39,14 @@ even_in_pairs n t passes paired = even (count_below lesser n) (count_below great
   down = count_below-into lesser greater t n n
       (λ k h e. paired.stays k h (and_parts (passes k) (ltb (t k) k) e).0)
       (λ k h e. and_from (passes (t k)) (ltb (t k) (t (t k))) (paired.kept k h (and_parts (passes k) (ltb (t k) k) e).0)
-        (lt-ltb (t k) (t (t k)) (omega (arith, ltb-true (t k) k (and_parts (passes k) (ltb (t k) k) e).1, paired.twice k h (and_parts (passes k) (ltb (t k) k) e).0))))
+      (lt-ltb (t k) (t (t k)) (omega (arith, ltb-true (t k) k (and_parts (passes k) (ltb (t k) k) e).1, paired.twice k h (and_parts (passes k) (ltb (t k) k) e).0))))
       (λ j k hj hk ej ek same. sym (paired.twice j hj (and_parts (passes j) (ltb (t j) j) ej).0) ∙ ap t same ∙ paired.twice k hk (and_parts (passes k) (ltb (t k) k) ek).0)
 
   up : count_below greater n ≤ count_below lesser n
   up = count_below-into greater lesser t n n
       (λ k h e. paired.stays k h (and_parts (passes k) (ltb k (t k)) e).0)
       (λ k h e. and_from (passes (t k)) (ltb (t (t k)) (t k)) (paired.kept k h (and_parts (passes k) (ltb k (t k)) e).0)
-        (lt-ltb (t (t k)) (t k) (omega (arith, ltb-true k (t k) (and_parts (passes k) (ltb k (t k)) e).1, paired.twice k h (and_parts (passes k) (ltb k (t k)) e).0))))
+      (lt-ltb (t (t k)) (t k) (omega (arith, ltb-true k (t k) (and_parts (passes k) (ltb k (t k)) e).1, paired.twice k h (and_parts (passes k) (ltb k (t k)) e).0))))
       (λ j k hj hk ej ek same. sym (paired.twice j hj (and_parts (passes j) (ltb j (t j)) ej).0) ∙ ap t same ∙ paired.twice k hk (and_parts (passes k) (ltb k (t k)) ek).0)
 
 -- each leader leads an even count of numbers, and all of them pass or none
@@ -84,9 +84,9 @@ even_in_cycles n lead passes led = ap (λ c. c % 2) (sym all) ∙ led_below_even
         other (sym (ap lead at) ∙ led.twice k hk ∙ at)))
     | inl leads ↦ elim (cases_Bool (passes m)) [
       | inl it_passes ↦ ap (λ c. c % 2) (count_below-same (led_by m) (λ e. eqb (lead e) m) n (λ k hk. elim (cases_eq (lead k) m) [
-          | inl at ↦ and_from (passes k) (eqb (lead k) m) (sym (led.kept k hk) ∙ ap passes at ∙ it_passes) (eq-eqb (lead k) m at) ∙ sym (eq-eqb (lead k) m at)
-          | inr apart ↦ and_right (passes k) (eqb (lead k) m) (ne_eqb (lead k) m apart) ∙ sym (ne_eqb (lead k) m apart)
-        ])) ∙ led.even m h leads
+        | inl at ↦ and_from (passes k) (eqb (lead k) m) (sym (led.kept k hk) ∙ ap passes at ∙ it_passes) (eq-eqb (lead k) m at) ∙ sym (eq-eqb (lead k) m at)
+        | inr apart ↦ and_right (passes k) (eqb (lead k) m) (ne_eqb (lead k) m apart) ∙ sym (ne_eqb (lead k) m apart)
+      ])) ∙ led.even m h leads
       | inr it_fails ↦ none (led_by m) (λ k hk e.
           (let at : lead k ≡ m = eqb-true (lead k) m (and_parts (passes k) (eqb (lead k) m) e).1 in
           both_ways (passes m) it_fails (sym (ap passes at) ∙ led.kept k hk ∙ (and_parts (passes k) (eqb (lead k) m) e).0)))
@@ -95,13 +95,19 @@ even_in_cycles n lead passes led = ap (λ c. c % 2) (sym all) ∙ led_below_even
 
   more : (m : ℕ) → count_below (led_below m) n + count_below (led_by m) n ≡ count_below (led_below (suc m)) n
   more m = count_below-split (led_below m) (led_by m) (led_below (suc m)) n (λ k h. elim (cases_order (lead k) m) [
-    | inl same ↦ inr (and_right (passes k) (ltb (lead k) m) (le-ltb (lead k) m (omega (arith, same))),
-        ap (λ b. passes k && b) (eq-eqb (lead k) m same ∙ sym (lt-ltb (lead k) (suc m) (omega (arith, same)))))
+    | inl same ↦ inr (
+      and_right (passes k) (ltb (lead k) m) (le-ltb (lead k) m (omega (arith, same))),
+      ap (λ b. passes k && b) (eq-eqb (lead k) m same ∙ sym (lt-ltb (lead k) (suc m) (omega (arith, same)))),
+    )
     | inr apart ↦ elim apart [
-      | inl less ↦ inl (ap (λ b. passes k && b) (lt-ltb (lead k) m less ∙ sym (lt-ltb (lead k) (suc m) (omega (arith, less)))),
-          and_right (passes k) (eqb (lead k) m) (ne_eqb (lead k) m (λ e. omega (arith, e, less))))
-      | inr beyond ↦ inl (ap (λ b. passes k && b) (le-ltb (lead k) m (omega (arith, beyond)) ∙ sym (le-ltb (lead k) (suc m) (omega (arith, beyond)))),
-          and_right (passes k) (eqb (lead k) m) (ne_eqb (lead k) m (λ e. omega (arith, e, beyond))))
+      | inl less ↦ inl (
+        ap (λ b. passes k && b) (lt-ltb (lead k) m less ∙ sym (lt-ltb (lead k) (suc m) (omega (arith, less)))),
+        and_right (passes k) (eqb (lead k) m) (ne_eqb (lead k) m (λ e. omega (arith, e, less))),
+      )
+      | inr beyond ↦ inl (
+        ap (λ b. passes k && b) (le-ltb (lead k) m (omega (arith, beyond)) ∙ sym (le-ltb (lead k) (suc m) (omega (arith, beyond)))),
+        and_right (passes k) (eqb (lead k) m) (ne_eqb (lead k) m (λ e. omega (arith, e, beyond))),
+      )
     ]
   ])
 

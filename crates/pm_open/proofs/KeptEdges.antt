@@ -1,9 +1,9 @@
 -- Where all degrees are even, an edge that isn't cut leads one level down from its lesser dart.
-use Rattle.std.proofs.Common.{◌≡◌, ℕ, zero, suc, ◌+◌, ◌%◌, ◌<◌, ◌≤◌, ◌&&◌, Bool, true, false, not, cond, nat_eq, refl, sym, ◌∙◌, ap, subst, arith}
+use Rattle.std.proofs.Common.{◌≡◌, ℕ, suc, ◌+◌, ◌%◌, ◌<◌, ◌≤◌, ◌&&◌, Bool, true, false, not, cond, nat_eq, refl, sym, ◌∙◌, ap, subst, arith}
 use Rattle.std.proofs.lemmas.Bool.{and_parts, and_from, cond-true, not-true}
 use Rattle.pm_perm.specs.Count.{count_below}
 use Rattle.pm_perm.specs.Cycles.{leader}
-use Rattle.pm_perm.specs.Pairs.{IsInvolutionBelow, IsNestedBelow}
+use Rattle.pm_perm.specs.Pairs.{IsNestedBelow}
 use Rattle.pm_perm.proofs.Counts.{count_below-all, count_below-parts}
 use Rattle.pm_perm.proofs.LeaderMaps.{IsLeaderMap, leader-map, leader_map-inside, leader_map-twice}
 use Rattle.pm_map.specs.Structure.{Structure, IsStructure}
@@ -16,6 +16,7 @@ use Rattle.pm_open.proofs.Stretches.{is_between, between-in, between-bounds, cou
 use Rattle.pm_open.proofs.NestedEdges.{cut-same, across-kept, across-involution, next-across}
 use Rattle.pm_open.proofs.LevelsAlong.{kept-not_up, level-parity}
 
+-- a test as a number, which tells it
 number_of : Bool → ℕ
 number_of test = cond test 1 0
 
@@ -62,7 +63,7 @@ kept_between s level p is nested h kept = even_in_pairs s.darts s.twin (λ k. is
       (ap not (cut-same s level k is hk ∙ k_kept)));
 })
 
--- a dart and the greater one of an edge that isn't cut are at places that are both even or both odd
+-- the two darts of an edge that isn't cut have numbers that are both even or both odd
 kept_even : (s : Structure) (level : ℕ → ℕ) (p : ℕ) → IsStructure s → IsWalkedInOrder s level → IsNestedBelow s.darts (across s level)
     → ((d degree : ℕ) → d < s.darts → IsCycleSize s.next d degree → degree % 2 ≡ 0) → p < s.darts → is_cut s level p ≡ false → p < s.twin p
     → (p + s.twin p) % 2 ≡ 0
@@ -70,7 +71,7 @@ kept_even s level p is walked nested even h kept less =
     let inner : s.twin p < s.darts = is.twin_stays p h in
     let stretch = even_at_vertices s (λ k. is_between (suc p) (suc (s.twin p)) k && true) is even
     (λ d hd. ap (λ b. b && true) (stretch-kept s.darts s.next (across s level) p (s.twin p) (across-involution s level is) nested (across-kept s level p kept) less inner
-      (λ e he. next-across s level e is walked he) d hd)) in
+    (λ e he. next-across s level e is walked he) d hd)) in
     let parts = count_below-between (λ _. true) (suc p) (suc (s.twin p)) s.darts (omega arith) (omega arith) in
     plain p (s.twin p) (count_below (λ _. true) (suc p)) (count_below (λ _. true) (suc (s.twin p)))
     (count_below (λ k. is_between (suc p) (suc (s.twin p)) k && true) s.darts)
@@ -78,6 +79,7 @@ kept_even s level p is walked nested even h kept less =
       plain : (p q a b c : ℕ) → a ≡ suc p → b ≡ suc q → a + c ≡ b → c % 2 ≡ 0 → (p + q) % 2 ≡ 0
       plain p q a b c e e' whole even = omega arith
 
+-- an edge that isn't cut leads one level down from its lesser dart
 pub kept-down : (s : Structure) (level : ℕ → ℕ) (p : ℕ) → IsStructure s → AreFaceLevels s level → IsWalkedInOrder s level → IsNestedBelow s.darts (across s level)
     → ((d degree : ℕ) → d < s.darts → IsCycleSize s.next d degree → degree % 2 ≡ 0) → p < s.darts → is_cut s level p ≡ false → p < s.twin p
     → level p ≡ suc (level (s.twin p))

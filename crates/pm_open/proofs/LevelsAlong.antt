@@ -1,12 +1,12 @@
 -- Levels of the faces along the walk and around the vertices.
-use Rattle.std.proofs.Common.{◌≡◌, ℕ, zero, suc, ◌+◌, ◌%◌, ◌<◌, ◌≤◌, ◌⊎◌, inl, inr, Bool, true, false, cond, nat_lt, nat_eq, refl, sym, ◌∙◌, ap, subst, arith}
+use Rattle.std.proofs.Common.{◌≡◌, ℕ, zero, suc, ◌+◌, ◌%◌, ◌<◌, ◌⊎◌, inl, inr, Bool, true, false, cond, sym, ◌∙◌, ap, arith}
 use Rattle.std.proofs.lemmas.Bool.{cases_Bool, cond-true, cond-false, eqb-true, eqb-false}
 use Rattle.pm_perm.specs.Count.{count_below}
 use Rattle.pm_perm.specs.Pairs.{IsRingBelow}
 use Rattle.pm_perm.proofs.Renumbered.{ring-mod}
-use Rattle.pm_map.specs.Structure.{Structure, IsStructure, face_next}
+use Rattle.pm_map.specs.Structure.{Structure, IsStructure}
 use Rattle.pm_map.specs.FaceDistance.{AreFaceLevels}
-use Rattle.pm_open.specs.Walked.{is_up, first_of, is_cut, across, IsWalkedInOrder}
+use Rattle.pm_open.specs.Walked.{is_up, is_cut, IsWalkedInOrder}
 use Rattle.pm_open.proofs.NestedEdges.{first-lesser, first-greater, lesser_or_greater, across-cut, across-kept}
 
 -- the next dart around a vertex has the level of the twin
@@ -32,6 +32,7 @@ level-along_kept s level d is levels walked h kept =
 pub cut-up : (s : Structure) (level : ℕ → ℕ) (d : ℕ) → is_cut s level d ≡ true → d < s.twin d → level (s.twin d) ≡ suc (level d)
 cut-up s level d cut less = eqb-true (level (s.twin d)) (suc (level d)) (ap (is_up s level) (sym (first-lesser s d less)) ∙ cut)
 
+-- an edge that isn't cut doesn't lead up from its lesser dart
 pub kept-not_up : (s : Structure) (level : ℕ → ℕ) (d : ℕ) → is_cut s level d ≡ false → d < s.twin d → level (s.twin d) ≡ suc (level d) → ⊥
 kept-not_up s level d kept less = eqb-false (level (s.twin d)) (suc (level d)) (ap (is_up s level) (sym (first-lesser s d less)) ∙ kept)
 

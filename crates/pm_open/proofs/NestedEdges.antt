@@ -1,5 +1,5 @@
 -- In a plane structure whose darts are numbered along the walk, the edges that are cut are nested, and so are the others.
-use Rattle.std.proofs.Common.{◌≡◌, ℕ, suc, ◌+◌, ◌*◌, ◌/◌, ◌%◌, ◌<◌, ◌⊎◌, inl, inr, Bool, true, false, nat_lt, nat_eq, refl, sym, ◌∙◌, ap, subst, arith}
+use Rattle.std.proofs.Common.{◌≡◌, ℕ, suc, ◌+◌, ◌*◌, ◌/◌, ◌%◌, ◌<◌, ◌⊎◌, inl, inr, true, false, nat_lt, nat_eq, sym, ◌∙◌, ap, subst, arith}
 use Rattle.std.proofs.lemmas.Bool.{cases_Bool, cases_order, cond-true, cond-false, lt-ltb, le-ltb, ne_eqb}
 use Rattle.pm_perm.specs.Cycles.{cycles}
 use Rattle.pm_perm.specs.Exchange.{IsProductBelow}
@@ -111,6 +111,6 @@ edges_nested s level is some euler walked =
     both_nested s.darts s.next (face_next s) (λ k. suc k % s.darts) (across s level) (partner s level) some (ring-mod s.darts)
     (across-involution s level is) (partner-involution s level is) product face_product
     (counts (cycles s.darts s.next) (cycles s.darts (face_next s)) (pairs s.darts (across s level)) (pairs s.darts (partner s level)) (pairs s.darts s.twin) s.darts
-      (euler_cycles s some euler) (kinds s level) all) where
+    (euler_cycles s some euler) (kinds s level) all) where
       counts : (v f a b e n : ℕ) → v + f ≡ n / 2 + 2 → a + b ≡ e → n ≡ 2 * e → v + f ≡ a + b + 2
       counts v f a b e n euler kinds all = omega arith

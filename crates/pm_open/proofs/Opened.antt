@@ -1,5 +1,5 @@
 -- What the walk that opens a map leaves, where its darts are numbered along the walk.
-use Rattle.std.specs.Prelude.{◌≡◌, ℕ, suc, ◌*◌, ◌<◌, Bool, true, false, List, length, if◌then◌else◌}
+use Rattle.std.specs.Prelude.{◌≡◌, ℕ, suc, ◌*◌, ◌<◌, true, false, List, length, if◌then◌else◌}
 use Rattle.std.specs.List.{count_by}
 use Rattle.pm_perm.specs.Pairs.{IsInvolutionBelow, IsNestedBelow}
 use Rattle.pm_map.specs.Structure.{Structure}

@@ -1,5 +1,5 @@
 -- The walk that opens a plane structure with even degrees leaves nested edges, and half of the darts at a vertex lead up.
-use Rattle.std.proofs.Common.{◌≡◌, ℕ, zero, suc, ◌+◌, ◌-◌, ◌*◌, ◌%◌, ◌<◌, ◌⊎◌, inl, inr, Bool, true, false, if◌then◌else◌, List, length, take, take_all, slice_index, refl, sym, ◌∙◌, ap, subst, arith}
+use Rattle.std.proofs.Common.{◌≡◌, ℕ, zero, suc, ◌+◌, ◌-◌, ◌*◌, ◌%◌, ◌<◌, ◌⊎◌, inl, inr, false, List, length, take, take_all, slice_index, sym, ◌∙◌, ap, arith}
 use Rattle.std.specs.List.{count_by}
 use Rattle.std.proofs.lemmas.Bool.{cases_Bool, cond-true, cond-false, eqb-true, eqb-false}
 use Rattle.std.proofs.lemmas.List.Sums.{count_by_more_yes, count_by_more_no}
@@ -21,7 +21,7 @@ use Rattle.pm_open.proofs.KeptEdges.{kept-down}
 pub record ChangesByOne (s : Structure) (level : ℕ → ℕ) : Type 0 where
   pub changes : (d : ℕ) → d < s.darts → (level (s.twin d) ≡ suc (level d)) ⊎ (level d ≡ suc (level (s.twin d)))
 
--- a dart more at a vertex
+-- one dart more at a vertex: twice the darts that lead up, and the level at the first dart, are the darts and the level at the next
 up_more : (s : Structure) (level : ℕ → ℕ) (vertex : List ℕ) (first i : ℕ) → ChangesByOne s level → i < length vertex → slice_index vertex i < s.darts
     → level (s.next (slice_index vertex i)) ≡ level (s.twin (slice_index vertex i))
     → 2 * count_by (is_up s level) (take i vertex) + first ≡ i + level (slice_index vertex i)
@@ -49,7 +49,7 @@ up_more s level vertex first i one h inner next before = elim (cases_Bool (is_up
   plain_down : (count after first i here next : ℕ) → after ≡ count → here ≡ suc next → 2 * count + first ≡ i + here → 2 * after + first ≡ suc i + next
   plain_down count after first i here next more fall before = omega arith
 
--- the first darts at a vertex
+-- the same for the first darts of a vertex
 up_before : (s : Structure) (level : ℕ → ℕ) (d : ℕ) (vertex : List ℕ) → IsStructure s → AreFaceLevels s level → ChangesByOne s level → d < s.darts → IsVertexFrom s d vertex
     → (i : ℕ) → i < length vertex → 2 * count_by (is_up s level) (take i vertex) + level d ≡ i + level (slice_index vertex i)
 up_before s level d vertex is levels one h from zero within =
@@ -108,7 +108,7 @@ root-up s level is some levels walked down =
       | inr kept ↦ absurd (let fall = down 0 some kept (omega arith) in omega (arith, root, fall))
     ]
 
--- in a plane structure with even degrees, numbered along the walk
+-- what the walk leaves in a plane structure with even degrees
 pub opened : (s : Structure) (level : ℕ → ℕ) → IsStructure s → 0 < s.darts → HasEulerTwo s → AreFaceLevels s level → IsWalkedInOrder s level
     → ((d degree : ℕ) → d < s.darts → IsCycleSize s.next d degree → degree % 2 ≡ 0) → IsOpened s level
 opened s level is some euler levels walked even =

@@ -1,6 +1,6 @@
 -- Counts of the numbers of a stretch.
-use Rattle.std.proofs.Common.{◌≡◌, ℕ, zero, suc, ◌+◌, ◌%◌, ◌<◌, ◌≤◌, ◌&&◌, ◌⊎◌, Bool, true, false, not, inl, inr, ltb, refl, sym, ◌∙◌, ap, arith}
-use Rattle.std.proofs.lemmas.Bool.{cases_eq, cases_lt, lt-ltb, le-ltb, ltb-true, ltb-false, and_parts, and_from, and_left, and_right, not-true}
+use Rattle.std.proofs.Common.{◌≡◌, ℕ, zero, suc, ◌+◌, ◌%◌, ◌<◌, ◌≤◌, ◌&&◌, ◌⊎◌, Bool, true, false, not, inl, inr, ltb, sym, ◌∙◌, ap, arith}
+use Rattle.std.proofs.lemmas.Bool.{cases_eq, cases_lt, lt-ltb, le-ltb, ltb-true, ltb-false, and_parts, and_left, not-true}
 use Rattle.pm_perm.specs.Count.{count_below}
 use Rattle.pm_perm.specs.Pairs.{IsRingBelow, IsInvolutionBelow, IsNestedBelow}
 use Rattle.pm_perm.proofs.Counts.{count_below-same, count_below-split}
@@ -46,18 +46,21 @@ count_below-between passes low high n h h' =
     ap (λ c. c + count_below (λ k. is_between low high k && passes k) n) (count_below-front passes low n (omega arith))
     ∙ count_below-split (λ k. ltb k low && passes k) (λ k. is_between low high k && passes k) (λ k. ltb k high && passes k) n (λ k hk. elim (cases_lt k low) [
       | inl before ↦ inl (
-          ap (λ b. b && passes k) (lt-ltb k low before ∙ sym (lt-ltb k high (omega (arith, before)))),
-          and_left (is_between low high k) (passes k) (between-below low high k before),
-        )
-      | inr after ↦ inr (and_left (ltb k low) (passes k) (le-ltb k low after), ap (λ b. b && passes k) (elim (cases_lt k high) [
-        | inl inside ↦ between-in low high k after inside ∙ sym (lt-ltb k high inside)
-        | inr beyond ↦ between-above low high k beyond ∙ sym (le-ltb k high beyond)
-      ]))
+        ap (λ b. b && passes k) (lt-ltb k low before ∙ sym (lt-ltb k high (omega (arith, before)))),
+        and_left (is_between low high k) (passes k) (between-below low high k before),
+      )
+      | inr after ↦ inr (
+        and_left (ltb k low) (passes k) (le-ltb k low after),
+        ap (λ b. b && passes k) (elim (cases_lt k high) [
+          | inl inside ↦ between-in low high k after inside ∙ sym (lt-ltb k high inside)
+          | inr beyond ↦ between-above low high k beyond ∙ sym (le-ltb k high beyond)
+        ]),
+      )
     ])
     ∙ sym (count_below-front passes high n h')
 
--- Where pairs are nested, what comes next after the partner of a number behind a pair's lesser end and up to its greater
--- end is there too, and of another number it isn't.
+-- Where pairs are nested, the number after a number's partner lies behind the lesser end of a pair and no further than its
+-- greater end exactly where the number itself does.
 pub stretch-kept : (n : ℕ) (f t : ℕ → ℕ) (p q : ℕ) → IsInvolutionBelow n t → IsNestedBelow n t → t p ≡ q → p < q → q < n
     → ((d : ℕ) → d < n → f d ≡ suc (t d) % n) → (d : ℕ) → d < n → is_between (suc p) (suc q) (f d) ≡ is_between (suc p) (suc q) d
 stretch-kept n f t p q paired nested end less inner next d h = elim (cases_lt p d) [
