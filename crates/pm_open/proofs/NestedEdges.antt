@@ -10,7 +10,7 @@ use Rattle.pm_map.specs.Structure.{Structure, IsStructure, face_next}
 use Rattle.pm_map.specs.Plane.{HasEulerTwo}
 use Rattle.pm_open.specs.Walked.{is_up, first_of, is_cut, across, IsWalkedInOrder}
 use Rattle.pm_open.proofs.Opened.{partner}
-use Rattle.pm_open.proofs.BothNested.{pairs-parted, both_nested}
+use Rattle.pm_perm.proofs.BothNested.{pairs-parted, both_nested}
 
 -- the dart of an edge that is met first is its lesser dart
 pub first-lesser : (s : Structure) (d : ℕ) → d < s.twin d → first_of s d ≡ d

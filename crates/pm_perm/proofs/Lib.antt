@@ -1,3 +1,4 @@
+pub mod BothNested
 pub mod Checks
 pub mod Counts
 pub mod InverseLemmas
