@@ -1,6 +1,7 @@
 pub mod BothNested
 pub mod Cutting
 pub mod EvenCounts
+pub mod Folded
 pub mod KeptEdges
 pub mod LevelsAlong
 pub mod NestedEdges
