@@ -7,6 +7,7 @@ pub mod LevelsAlong
 pub mod NestedEdges
 pub mod Opened
 pub mod OpenedWalk
+pub mod PlaceKinds
 pub mod Stretches
 pub mod Walks
 pub mod WholeWalk
