@@ -62,7 +62,7 @@ unfolding NoneCloses
 no_close_in_level xs k l = own_letters_close_none 0 xs k l
 
 -- the darts of a vertex are met from its first, and lead back after as many steps as there are
-vertex_steps : (s : Structure) (d : ℕ) (vertex : List ℕ) → IsVertexFrom s d vertex → (k : ℕ) → k < length vertex → slice_index vertex k ≡ repeated s.next k d
+pub vertex_steps : (s : Structure) (d : ℕ) (vertex : List ℕ) → IsVertexFrom s d vertex → (k : ℕ) → k < length vertex → slice_index vertex k ≡ repeated s.next k d
 vertex_steps s d vertex is zero l = (vertex_begins s d vertex is).1
 vertex_steps s d vertex is (suc k) l = is.goes k l ∙ ap s.next (vertex_steps s d vertex is k (omega arith))
 
@@ -89,13 +89,13 @@ module _ (word : List ℕ) (order : IsInOrder word) (other : List ℕ) (bracketi
   around p l = bracketing_across (contour word) other bracketing p l
 
   -- the plant is across itself
-  root_head : slice_index other 0 ≡ 0
+  pub root_head : slice_index other 0 ≡ 0
   root_head = bracketing.of_letter 0 (omega arith) (λ e. no_plant e (omega arith)) (λ e. no_plant e (omega arith)) where
     no_plant : {x : ℕ} → LEAF ≡ x → LEAF ≢ x → ⊥
     no_plant e ne = ne e
 
   -- the head of a node is the place across it
-  head_is : (node head : ℕ) → IsHead (contour word) node head → head ≡ slice_index other node
+  pub head_is : (node head : ℕ) → IsHead (contour word) node head → head ≡ slice_index other node
   head_is node head h = elim h [
     | inl root ↦ root.1 ∙ sym root_head ∙ ap (slice_index other) (sym root.0)
     | inr pair ↦ one_closer (contour word) node head (slice_index other node) pair (bracketing.of_open node pair.opens)

@@ -28,6 +28,10 @@ first_of_twin s d is l =
 pub cut_twin : (s : Structure) (level : ℕ → ℕ) (d : ℕ) → IsStructure s → d < s.darts → is_cut s level (s.twin d) ≡ is_cut s level d
 cut_twin s level d is l = ap (is_up s level) (first_of_twin s d is l)
 
+-- at the first dart of an edge
+pub up_lesser : (s : Structure) (level : ℕ → ℕ) (d : ℕ) → d ≤ s.twin d → is_cut s level d ≡ is_up s level d
+up_lesser s level d l = ap (is_up s level) (first_is_self s d l)
+
 -- the edge of the root is cut
 pub root_cut : (s : Structure) (level : ℕ → ℕ) → level 0 ≡ 0 → level (s.twin 0) ≡ 1 → is_cut s level 0 ≡ true
 root_cut s level low up = ap (is_up s level) (first_is_self s 0 (omega arith)) ∙ eq-eqb (level (s.twin 0)) (suc (level 0)) (omega arith)
