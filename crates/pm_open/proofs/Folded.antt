@@ -1,5 +1,5 @@
 -- Letters of a stretch in twos: behind each first letter stands its second one.
-use Rattle.std.proofs.Common.{◌≡◌, ℕ, zero, suc, ◌+◌, ◌-◌, ◌≤◌, ◌<◌, Bool, true, false, inl, inr, List, sym, ap, ◌∙◌, eqb, eqb-true, eq-eqb, ne_eqb, arith}
+use Rattle.std.proofs.Common.{◌≡◌, ℕ, zero, suc, ◌+◌, ◌-◌, ◌≤◌, ◌<◌, Bool, true, false, inl, inr, List, ap, ◌∙◌, eqb, eqb-true, eq-eqb, ne_eqb, arith}
 use Rattle.std.specs.Prelude.{slice_index}
 use Rattle.std.proofs.lemmas.Bool.{cases_eq}
 use Rattle.pm_perm.specs.Count.{count_below}
@@ -69,23 +69,23 @@ module _ (places : List ℕ) (first second : ℕ) (other : ℕ → ℕ) (a b : �
   seconds_few n le = count_below-into (stands places second a) (stands places first a) over n n
       (λ k l e. let h = folded.of_second (a + k) (omega arith) (omega arith) (stands_is places second a k e) in omega (arith, h.0, h.1, over_is k h.1))
       (λ k l e. let h = folded.of_second (a + k) (omega arith) (omega arith) (stands_is places second a k e) in
-          stands_yes places first a (over k) (ap (slice_index places) (over_is k h.1) ∙ h.2))
+      stands_yes places first a (over k) (ap (slice_index places) (over_is k h.1) ∙ h.2))
       (λ j k l m e f same. over_injective j k (omega arith) (omega arith)
-          (folded.of_second (a + j) (omega arith) (omega arith) (stands_is places second a j e)).1
-          (folded.of_second (a + k) (omega arith) (omega arith) (stands_is places second a k f)).1 same)
+      (folded.of_second (a + j) (omega arith) (omega arith) (stands_is places second a j e)).1
+      (folded.of_second (a + k) (omega arith) (omega arith) (stands_is places second a k f)).1 same)
 
   -- each first letter has its second one before the end
   firsts_few : (n : ℕ) → a + n ≡ b → count_below (stands places first a) n ≤ count_below (stands places second a) n
   firsts_few n end = count_below-into (stands places first a) (stands places second a) over n n
       (λ k l e. let h = folded.of_first (a + k) (omega arith) (omega arith) (stands_is places first a k e) in
-          let low : a ≤ other (a + k) = omega (arith, h.0) in omega (arith, h.1, over_is k low))
+      let low : a ≤ other (a + k) = omega (arith, h.0) in omega (arith, h.1, over_is k low))
       (λ k l e. let h = folded.of_first (a + k) (omega arith) (omega arith) (stands_is places first a k e) in
-          let low : a ≤ other (a + k) = omega (arith, h.0) in
-          stands_yes places second a (over k) (ap (slice_index places) (over_is k low) ∙ h.2))
+      let low : a ≤ other (a + k) = omega (arith, h.0) in
+      stands_yes places second a (over k) (ap (slice_index places) (over_is k low) ∙ h.2))
       (λ j k l m e f same.
-          let h = folded.of_first (a + j) (omega arith) (omega arith) (stands_is places first a j e) in
-          let g = folded.of_first (a + k) (omega arith) (omega arith) (stands_is places first a k f) in
-          over_injective j k (omega arith) (omega arith) (omega (arith, h.0)) (omega (arith, g.0)) same)
+      let h = folded.of_first (a + j) (omega arith) (omega arith) (stands_is places first a j e) in
+      let g = folded.of_first (a + k) (omega arith) (omega arith) (stands_is places first a k f) in
+      over_injective j k (omega arith) (omega arith) (omega (arith, h.0)) (omega (arith, g.0)) same)
 
   -- no front of the stretch has more second letters than first ones
   pub folded_below : (j : ℕ) → a ≤ j → j ≤ b → 0 < first → 0 < second → seen second places j + seen first places a ≤ seen first places j + seen second places a

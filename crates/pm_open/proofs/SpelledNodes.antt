@@ -1,19 +1,17 @@
 -- The nodes of what is spelled along the walk have the degrees of the structure's vertices, and the buds that they want.
-use Rattle.std.proofs.Common.{◌≡◌, ◌≢◌, ℕ, zero, suc, ◌+◌, ◌*◌, ◌<◌, ◌≤◌, ◌==◌, Bool, true, false, cond, inl, inr, List, [], ◌∷◌, length, drop, map, refl, sym, ap, ◌∙◌, subst, lit<, eq-eqb, ne_eqb, eqb-true, arith}
+use Rattle.std.proofs.Common.{◌≡◌, ◌≢◌, ℕ, suc, ◌<◌, ◌==◌, Bool, true, false, cond, inl, inr, List, [], ◌∷◌, length, drop, map, refl, sym, ap, ◌∙◌, subst, lit<, eq-eqb, ne_eqb, eqb-true, arith}
 use Rattle.std.specs.Prelude.{slice_index, count_by}
-use Rattle.std.proofs.lemmas.Bool.{cases_eq, cases_Bool}
 use Rattle.std.proofs.lemmas.List.{length-map}
 use Rattle.std.proofs.lemmas.List.Sums.{sum_by-cons}
-use Rattle.pm_perm.specs.Cycles.{repeated, IsInCycle}
+use Rattle.pm_perm.specs.Cycles.{repeated}
 use Rattle.pm_perm.proofs.Repeats.{repeated-inside}
-use Rattle.pm_trees.specs.declared.letters.TheConstants.{LEAF, BUD, OPEN, CLOSE}
+use Rattle.pm_trees.specs.declared.letters.TheConstants.{BUD, CLOSE}
 use Rattle.pm_trees.specs.Word.{IsBracketing, IsInOrder, contour, count}
-use Rattle.pm_trees.specs.Node.{IsNode, IsDegree, IsBudded, entries, degree, buds}
+use Rattle.pm_trees.specs.Node.{IsNode, IsDegree, degree}
 use Rattle.pm_trees.specs.Blossoming.{HasDegrees, HasBuds}
 use Rattle.pm_trees.proofs.Bracketed.{bracketing_exists}
 use Rattle.pm_trees.proofs.Nesting.{other_twice}
-use Rattle.pm_map.specs.Structure.{Structure, IsStructure}
-use Rattle.pm_map.specs.Meeting.{IsVertexFrom}
+use Rattle.pm_map.specs.Structure.{Structure}
 use Rattle.pm_map.proofs.UniqueMeeting.{vertex_begins}
 use Rattle.pm_close.specs.Closure.{IsClosure}
 use Rattle.pm_close.specs.Nodes.{IsHead, IsNodeVertex}
@@ -132,8 +130,8 @@ module _ (s : Structure) (level : ℕ → ℕ) (word : List ℕ) (read : IsReadA
       let inside : slice_index vertex (suc k) < s.darts = subst (λ (e : ℕ). e < s.darts) (sym met) (repeated-inside s.next s.darts read.structure.rotation (suc k) v.head in_head) in
       let apart = v.is_vertex.once k l in
       let never : (b : ℕ) → IsNode (contour word) b → slice_index vertex (suc k) ≡ slice_index other b → ⊥ = λ b b_node e.
-          apart (e ∙ sym (one_head word order other bracketing s is s.darts read.structure.rotation node b (subst (λ (h : ℕ). h < s.darts) head in_head) named b_node
-          (record { steps = suc k; leads = ap (repeated s.next (suc k)) (sym head) ∙ sym met ∙ e })) ∙ sym head) in
+      apart (e ∙ sym (one_head word order other bracketing s is s.darts read.structure.rotation node b (subst (λ (h : ℕ). h < s.darts) head in_head) named b_node
+      (record { steps = suc k; leads = ap (repeated s.next (suc k)) (sym head) ∙ sym met ∙ e })) ∙ sym head) in
       record {
         inside = inside;
         no_plant = λ e. never 0 (inl refl) (e ∙ sym (root_head word order other bracketing s is));
@@ -149,8 +147,8 @@ module _ (s : Structure) (level : ℕ → ℕ) (word : List ℕ) (read : IsReadA
       let begins = vertex_begins s v.1.head v.0 v.1.is_vertex in
       let first : is_up s level (slice_index v.0 0) ≡ true = ap (is_up s level) begins.1 ∙ head_up node v.1.head v.1.is_head in
       let counted = count_after_first (is_up s level) (slice_index (contour word)) v.0 begins.0 first (λ k l.
-          let h = no_head bracketing.0 bracketing.1 node named v.0 v.1 k l in
-          up_bud (slice_index v.0 (suc k)) h.inside h.no_plant h.no_close) in
+      let h = no_head bracketing.0 bracketing.1 node named v.0 v.1 k l in
+      up_bud (slice_index v.0 (suc k)) h.inside h.no_plant h.no_close) in
       let half = read.opened.half_up v.1.head v.0 inside v.1.is_vertex in
       let same = ap (count BUD) v.1.entries_are in
       let long = vertex_length (contour word) s node v.0 v.1 in

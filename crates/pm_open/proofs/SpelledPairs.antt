@@ -1,10 +1,9 @@
 -- The letters along the walk: the brackets match, and the buds and leaves of the edges that are cut are pairs.
-use Rattle.std.proofs.Common.{◌≡◌, ◌≢◌, ℕ, zero, suc, ◌+◌, ◌-◌, ◌%◌, ◌<◌, ◌≤◌, Bool, true, false, inl, inr, List, length, take, refl, sym, ap, ◌∙◌, subst, lit<, take_all, arith, IsTrue, All}
+use Rattle.std.proofs.Common.{◌≡◌, ◌≢◌, ℕ, suc, ◌-◌, ◌%◌, ◌<◌, ◌≤◌, Bool, true, false, inl, inr, List, length, take, refl, sym, ap, ◌∙◌, subst, lit<, take_all, arith, IsTrue}
 use Rattle.std.specs.Prelude.{slice_index}
 use Rattle.std.proofs.lemmas.Bool.{cases_eq}
 use Rattle.std.proofs.lemmas.List.{take-append-le}
 use Rattle.std.proofs.lemmas.List.Elements.{All-from_get_or}
-use Rattle.pm_perm.specs.Pairs.{IsNestedBelow}
 use Rattle.pm_trees.specs.declared.letters.TheConstants.{LEAF, BUD, OPEN, CLOSE}
 use Rattle.pm_trees.specs.Word.{IsBracketPair, IsInOrder, IsMatched, contour, count, is_letter}
 use Rattle.pm_trees.proofs.Tally.{tally_is}
@@ -18,7 +17,7 @@ use Rattle.pm_close.specs.Closure.{IsClosure, IsAcross, from_open, from_close, f
 use Rattle.pm_close.proofs.TwinLemmas.{by_letter, twins_back}
 use Rattle.pm_open.specs.Walked.{is_cut, across, IsWalkedInOrder, IsSpelled}
 use Rattle.pm_open.proofs.Opened.{partner, IsOpened}
-use Rattle.pm_open.proofs.PlaceKinds.{IsKind, a_plant, a_bud, a_leaf, an_open, a_close, kind, cut_twin, across_cut, across_kept, partner_cut, partner_kept}
+use Rattle.pm_open.proofs.PlaceKinds.{IsKind, a_plant, a_bud, a_leaf, an_open, a_close, kind, cut_twin, across_cut, across_kept, partner_cut}
 use Rattle.pm_open.proofs.Folded.{IsFolded, folded_below, folded_equal}
 
 -- a structure with what its walk leaves, and the letters along the walk
