@@ -79,6 +79,14 @@ vertex_size s d vertex is =
       again s d vertex is zero positive less e = omega arith
       again s d vertex is (suc k) positive less e = is.once k less (vertex_steps s d vertex is (suc k) less ∙ e)
 
+-- a vertex has as many darts as its node has entries, and one more
+pub vertex_length : (places : List ℕ) (s : Structure) (node : ℕ) (vertex : List ℕ) → IsNodeVertex places s node vertex → length vertex ≡ degree places node
+vertex_length places s node vertex v =
+    omega (arith, ap length v.entries_are, length-map (drop 1 vertex) (slice_index places), dropped vertex (vertex_begins s v.head vertex v.is_vertex).0) where
+      dropped : (xs : List ℕ) → 0 < length xs → suc (length (drop 1 xs)) ≡ length xs
+      dropped [] l = absurd (omega arith)
+      dropped (x ∷ xs) l = refl
+
 -- what is met from the first dart of a vertex stands in it
 vertex_all : (s : Structure) (d : ℕ) (vertex : List ℕ) → IsVertexFrom s d vertex → (k : ℕ) → Stands vertex (repeated s.next k d)
 vertex_all s d vertex is zero = (0, record { within = (vertex_begins s d vertex is).0; here = (vertex_begins s d vertex is).1 })
@@ -106,13 +114,8 @@ module _ (word : List ℕ) (order : IsInOrder word) (other : List ℕ) (bracketi
   head_size node named =
       let v = node_vertices word s order is node named in
       let sized = vertex_size s v.1.head v.0 v.1.is_vertex in
-      let some = (vertex_begins s v.1.head v.0 v.1.is_vertex).0 in
-      let long : length v.0 ≡ degree (contour word) node = omega (arith, ap length v.1.entries_are, length-map (drop 1 v.0) (slice_index (contour word)), dropped v.0 some) in
       subst (λ (h : ℕ). IsCycleSize s.next h (degree (contour word) node)) (head_is node v.1.head v.1.is_head)
-      (subst (λ (k : ℕ). IsCycleSize s.next v.1.head k) long sized) where
-        dropped : (xs : List ℕ) → 0 < length xs → suc (length (drop 1 xs)) ≡ length xs
-        dropped [] l = absurd (omega arith)
-        dropped (x ∷ xs) l = refl
+      (subst (λ (k : ℕ). IsCycleSize s.next v.1.head k) (vertex_length (contour word) s node v.0 v.1) sized)
 
   -- the node at whose head the vertex of a place arrives
   pub record ArrivesAt (p node : ℕ) : Type 0 where

@@ -27,7 +27,8 @@ pub record IsTwinByLetter (places : List ℕ) (p q : ℕ) : Type 0 where
   pub at_bud : slice_index places p ≡ BUD → IsPair places p q
   pub at_leaf : slice_index places p ≡ LEAF → IsPair places q p ⊎ (IsFree places p × IsFree places q × (p ≢ q))
 
-two_letters : {A : Type 0} (places : List ℕ) (p x y : ℕ) → x ≢ y → slice_index places p ≡ x → slice_index places p ≡ y → A
+-- no two letters stand at one place
+pub two_letters : {A : Type 0} (places : List ℕ) (p x y : ℕ) → x ≢ y → slice_index places p ≡ x → slice_index places p ≡ y → A
 two_letters places p x y ne one two = absurd (ne (sym one ∙ two))
 
 pub by_letter : (places : List ℕ) (p q : ℕ) → AreTwins places p q → IsTwinByLetter places p q

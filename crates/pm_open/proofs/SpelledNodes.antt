@@ -1,13 +1,12 @@
 -- The nodes of what is spelled along the walk have the degrees of the structure's vertices, and the buds that they want.
 use Rattle.std.proofs.Common.{◌≡◌, ◌≢◌, ℕ, suc, ◌<◌, ◌==◌, Bool, true, false, cond, inl, inr, List, [], ◌∷◌, length, drop, map, refl, sym, ap, ◌∙◌, subst, lit<, eq-eqb, ne_eqb, eqb-true, arith}
 use Rattle.std.specs.Prelude.{slice_index, count_by}
-use Rattle.std.proofs.lemmas.List.{length-map}
 use Rattle.std.proofs.lemmas.List.Sums.{sum_by-cons}
 use Rattle.pm_perm.specs.Cycles.{repeated}
 use Rattle.pm_perm.proofs.Repeats.{repeated-inside}
 use Rattle.pm_trees.specs.declared.letters.TheConstants.{BUD, CLOSE}
 use Rattle.pm_trees.specs.Word.{IsBracketing, IsInOrder, contour, count}
-use Rattle.pm_trees.specs.Node.{IsNode, IsDegree, degree}
+use Rattle.pm_trees.specs.Node.{IsNode, IsDegree}
 use Rattle.pm_trees.specs.Blossoming.{HasDegrees, HasBuds}
 use Rattle.pm_trees.proofs.Bracketed.{bracketing_exists}
 use Rattle.pm_trees.proofs.Nesting.{other_twice}
@@ -17,7 +16,7 @@ use Rattle.pm_close.specs.Closure.{IsClosure}
 use Rattle.pm_close.specs.Nodes.{IsHead, IsNodeVertex}
 use Rattle.pm_close.proofs.TwinLemmas.{within}
 use Rattle.pm_close.proofs.NodeVertices.{node_vertices}
-use Rattle.pm_close.proofs.Heads.{vertex_steps, vertex_size, root_head, head_is, one_head}
+use Rattle.pm_close.proofs.Heads.{vertex_steps, vertex_size, vertex_length, root_head, head_is, one_head}
 use Rattle.pm_open.specs.Opening.{HasEvenDegrees}
 use Rattle.pm_open.specs.Walked.{is_up, is_cut}
 use Rattle.pm_open.proofs.PlaceKinds.{a_plant, a_bud, a_leaf, an_open, a_close, cut_twin, up_lesser}
@@ -40,14 +39,6 @@ count_after_first f h (x ∷ xs) some first later =
     let rest = count_mapped f (λ y. y == BUD) h xs (λ k l. later k (omega arith)) in
     let here : cond {A = ℕ} (f x) 1 0 ≡ 1 = ap (λ (b : Bool). cond {A = ℕ} b 1 0) first in
     omega (arith, rest, here, sum_by-cons (λ (y : ℕ). cond {A = ℕ} (f y) 1 0) x xs)
-
--- a vertex has as many darts as its node has entries, and one more
-vertex_length : (places : List ℕ) (s : Structure) (node : ℕ) (vertex : List ℕ) → IsNodeVertex places s node vertex → length vertex ≡ degree places node
-vertex_length places s node vertex v =
-    omega (arith, ap length v.entries_are, length-map (drop 1 vertex) (slice_index places), dropped vertex (vertex_begins s v.head vertex v.is_vertex).0) where
-      dropped : (xs : List ℕ) → 0 < length xs → suc (length (drop 1 xs)) ≡ length xs
-      dropped [] l = absurd (omega arith)
-      dropped (x ∷ xs) l = refl
 
 module _ (s : Structure) (level : ℕ → ℕ) (word : List ℕ) (read : IsReadAlong s level (contour word)) (is : IsClosure (contour word) s) where
   order : IsInOrder word

@@ -14,7 +14,7 @@ use Rattle.pm_match.proofs.Counts.{buds, leaves, letter-first, bud_within}
 use Rattle.pm_match.proofs.Meeting.{IsMeeting, pair_first, pair_unique}
 use Rattle.pm_map.specs.Structure.{Structure, IsStructure}
 use Rattle.pm_close.specs.Closure.{IsClosure, IsAcross, from_open, from_close, from_letter, AreTwins, edge_down, edge_up, pair_bud, pair_leaf, free_leaves}
-use Rattle.pm_close.proofs.TwinLemmas.{by_letter, twins_back}
+use Rattle.pm_close.proofs.TwinLemmas.{two_letters, by_letter, twins_back}
 use Rattle.pm_open.specs.Walked.{is_cut, across, IsWalkedInOrder, IsSpelled}
 use Rattle.pm_open.proofs.Opened.{partner, IsOpened}
 use Rattle.pm_open.proofs.PlaceKinds.{IsKind, a_plant, a_bud, a_leaf, an_open, a_close, kind, cut_twin, across_cut, across_kept, partner_cut}
@@ -42,9 +42,7 @@ record IsClosedIn (a b : ℕ) (f : ℕ → ℕ) : Type 0 where
   low : (k : ℕ) → a ≤ k → k < b → a ≤ f k
   high : (k : ℕ) → a ≤ k → k < b → f k < b
 
-two_letters : {A : Type 0} (places : List ℕ) (p x y : ℕ) → x ≢ y → slice_index places p ≡ x → slice_index places p ≡ y → A
-two_letters places p x y ne one two = absurd (ne (sym one ∙ two))
-
+-- no test has both answers
 both_ways : {A : Type 0} {b : Bool} → b ≡ false → b ≡ true → A
 both_ways e f = absurd cc
 
