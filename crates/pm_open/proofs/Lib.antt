@@ -12,5 +12,6 @@ pub mod Spelled
 pub mod SpelledNodes
 pub mod SpelledPairs
 pub mod Stretches
+pub mod UniqueWalk
 pub mod Walks
 pub mod WholeWalk
