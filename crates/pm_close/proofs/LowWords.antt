@@ -14,11 +14,11 @@ plant_leaf : (xs : List ℕ) → count LEAF (LEAF ∷ xs) ≡ suc (count LEAF xs
 plant_leaf xs = omega (arith, tally_is LEAF (LEAF ∷ xs), tally_yes LEAF LEAF xs refl, tally_is LEAF xs)
 
 -- the counts of a front with the plant
-leaves_of : (word : List ℕ) (k : ℕ) → k ≤ length word → leaves (contour word) (suc k) ≡ suc (count LEAF (take k word))
+pub leaves_of : (word : List ℕ) (k : ℕ) → k ≤ length word → leaves (contour word) (suc k) ≡ suc (count LEAF (take k word))
 unfolding leaves
 leaves_of word k le = ap (count LEAF) (take-append-le (suc k) (contour word) (contour word) (omega arith)) ∙ plant_leaf (take k word)
 
-buds_of : (word : List ℕ) (k : ℕ) → k ≤ length word → buds (contour word) (suc k) ≡ count BUD (take k word)
+pub buds_of : (word : List ℕ) (k : ℕ) → k ≤ length word → buds (contour word) (suc k) ≡ count BUD (take k word)
 unfolding buds
 buds_of word k le = ap (count BUD) (take-append-le (suc k) (contour word) (contour word) (omega arith))
 

@@ -12,6 +12,7 @@ pub mod Spelled
 pub mod SpelledNodes
 pub mod SpelledPairs
 pub mod Stretches
+pub mod TreeLevels
 pub mod UniqueWalk
 pub mod Walks
 pub mod WholeWalk
