@@ -1,5 +1,6 @@
 pub mod ClosedMap
 pub mod ClosureLemmas
+pub mod ClosureStructure
 pub mod DartLemmas
 pub mod Heads
 pub mod JoiningSteps
