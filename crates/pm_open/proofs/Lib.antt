@@ -1,6 +1,7 @@
 pub mod BothNested
 pub mod Cutting
 pub mod EvenCounts
+pub mod FirstMet
 pub mod Folded
 pub mod KeptEdges
 pub mod LevelsAlong
@@ -13,6 +14,7 @@ pub mod SpelledNodes
 pub mod SpelledPairs
 pub mod Stretches
 pub mod TreeLevels
+pub mod TreeWalk
 pub mod UniqueWalk
 pub mod Walks
 pub mod WholeWalk

@@ -10,6 +10,7 @@ use Rattle.pm_map.specs.FaceDistance.{IsFaceDistance, AreFaceLevels}
 use Rattle.pm_map.proofs.DistanceLemmas.{levels_are_distances, distances_are_carried}
 use Rattle.pm_close.proofs.ClosureLemmas.{succ_inside}
 use Rattle.pm_open.specs.Walked.{is_up, first_of, is_cut, across, letter_of, IsWalkedInOrder, IsSpelled}
+use Rattle.pm_open.proofs.FirstMet.{first_is_twin, first_is_own}
 
 -- the distance to a face is one number
 one_distance : (s : Structure) (d e a b : ℕ) → IsFaceDistance s d e a → IsFaceDistance s d e b → a ≡ b
@@ -27,13 +28,7 @@ levels_carried s t level t_level rename one other carries levels t_levels d l =
     let is : IsFaceDistance t t.root (rename d) (t_level (rename d)) = (levels_are_distances t t_level other).0 t_levels (rename d) below in
     one_distance t t.root (rename d) (t_level (rename d)) (level d) is (subst (λ r. IsFaceDistance t r (rename d) (level d)) (carries.root some) there)
 
--- the dart that is met first
-first_is_twin : (s : Structure) (d : ℕ) → s.twin d < d → first_of s d ≡ s.twin d
-first_is_twin s d l = ap (λ (b : Bool). cond b (s.twin d) d) (lt-ltb (s.twin d) d l)
-
-first_is_own : (s : Structure) (d : ℕ) → d ≤ s.twin d → first_of s d ≡ d
-first_is_own s d l = ap (λ (b : Bool). cond b (s.twin d) d) (le-ltb (s.twin d) d l)
-
+-- a choice after a function or before it
 through : (f : ℕ → ℕ) (b : Bool) (x y : ℕ) → f (cond b x y) ≡ cond b (f x) (f y)
 through f true x y = refl
 through f false x y = refl
