@@ -15,6 +15,7 @@ pub mod SpelledPairs
 pub mod Stretches
 pub mod TreeLevels
 pub mod TreeWalk
+pub mod UniqueOpening
 pub mod UniqueWalk
 pub mod Walks
 pub mod WholeWalk
