@@ -3,12 +3,13 @@ use Rattle.std.proofs.Common.{◌≡◌, ℕ, List}
 use Rattle.pm_trees.specs.Word.{contour}
 use Rattle.pm_trees.specs.Blossoming.{IsBlossoming}
 use Rattle.pm_match.specs.Pair.{IsBalanced}
-use Rattle.pm_map.specs.Structure.{Structure, CarriesTo, Same}
-use Rattle.pm_map.specs.Rotation.{structure_of}
+use Rattle.pm_map.specs.Structure.{Structure, IsStructure, Same}
+use Rattle.pm_map.specs.Rotation.{RotationSystem, structure_of}
 use Rattle.pm_map.proofs.SameMaps.{same_symmetric, same_transitive}
 use Rattle.pm_close.specs.Closure.{IsClosure, dart_of}
 use Rattle.pm_close.proofs.ClosureStructure.{closure_structure}
 use Rattle.pm_open.specs.Laws.{HasOneOpening}
+use Rattle.pm_open.specs.Opening.{IsOpening}
 use Rattle.pm_open.proofs.TreeWalk.{tree_is_walked, tree_has_levels}
 use Rattle.pm_open.proofs.UniqueWalk.{levels_carried, spelled_is_one}
 
@@ -28,16 +29,18 @@ closures_tell_trees one other a b one_tree other_tree one_balanced other_balance
       word_of : (one other : List ℕ) → contour one ≡ contour other → one ≡ other
       word_of one other e = cc
 
+-- the closure on places of an opening is the same as the map
+same_as_map : (map : RotationSystem) (word : List ℕ) → IsStructure (structure_of map) → (is : IsOpening map word) → Same is.is_closure.closure (structure_of map)
+same_as_map map word structure is =
+    same_transitive is.is_closure.closure (structure_of is.closure) (structure_of map)
+    (dart_of is.is_closure.closure.twin, is.is_closure.carries)
+    (same_symmetric (structure_of map) (structure_of is.closure) structure is.same)
+
+-- a rooted map has no two openings
 pub one_opening : HasOneOpening
 one_opening map one other valid is_one is_other =
-    let a = is_one.is_closure.closure in
-    let b = is_other.is_closure.closure in
-    let from_a : Same is_one.is_closure.closure (structure_of is_one.closure) = (dart_of is_one.is_closure.closure.twin, is_one.is_closure.carries) in
-    let from_b : Same is_other.is_closure.closure (structure_of is_other.closure) = (dart_of is_other.is_closure.closure.twin, is_other.is_closure.carries) in
-    let to_map : Same (structure_of is_one.closure) (structure_of map) = same_symmetric (structure_of map) (structure_of is_one.closure) valid.structure is_one.same in
-    let to_b : Same (structure_of is_other.closure) is_other.is_closure.closure =
-    same_symmetric is_other.is_closure.closure (structure_of is_other.closure) (closure_structure other is_other.is_closure.closure is_other.blossoming is_other.is_closure.is_closure) from_b in
-    let same : Same is_one.is_closure.closure is_other.is_closure.closure =
-    same_transitive a (structure_of is_one.closure) b from_a
-    (same_transitive (structure_of is_one.closure) (structure_of map) b to_map (same_transitive (structure_of map) (structure_of is_other.closure) b is_other.same to_b)) in
-    closures_tell_trees one other is_one.is_closure.closure is_other.is_closure.closure is_one.blossoming is_other.blossoming is_one.balanced is_other.balanced is_one.is_closure.is_closure is_other.is_closure.is_closure same
+    let a = is_one.is_closure in
+    let b = is_other.is_closure in
+    let from_map = same_symmetric b.closure (structure_of map) (closure_structure other b.closure is_other.blossoming b.is_closure) (same_as_map map other valid.structure is_other) in
+    closures_tell_trees one other a.closure b.closure is_one.blossoming is_other.blossoming is_one.balanced is_other.balanced a.is_closure b.is_closure
+    (same_transitive a.closure (structure_of map) b.closure (same_as_map map one valid.structure is_one) from_map)
