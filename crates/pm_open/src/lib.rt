@@ -1,2 +1,6 @@
 //! Opening: from a plane map with even degrees back to the balanced tree that closes to it.
 #![tactic(auto)]
+
+mod laws;
+
+pub use laws::opening_is_unique;
