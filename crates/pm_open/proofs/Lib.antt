@@ -1,4 +1,3 @@
-pub mod BothNested
 pub mod Cutting
 pub mod EvenCounts
 pub mod FirstMet
