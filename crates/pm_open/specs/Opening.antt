@@ -1,5 +1,6 @@
 -- The opening of a map (Schaeffer 1997): the balanced tree whose closure it is, up to the names of darts.
-use Rattle.std.specs.Prelude.{ℕ, ◌<◌, List}
+use Rattle.std.specs.Prelude.{ℕ, ◌<◌, List, Result, Ok, Err, ⊤}
+use Rattle.pm_limits.specs.declared.TheConstants.{MAX_DEGREE}
 use Rattle.pm_trees.specs.Node.{IsDegree}
 use Rattle.pm_trees.specs.Word.{contour}
 use Rattle.pm_trees.specs.Blossoming.{IsBlossoming}
@@ -7,7 +8,11 @@ use Rattle.pm_match.specs.Pair.{IsBalanced}
 use Rattle.pm_map.specs.Structure.{Structure, Same}
 use Rattle.pm_map.specs.Rotation.{RotationSystem, structure_of}
 use Rattle.pm_map.specs.CycleSize.{IsCycleSize}
+use Rattle.pm_map.specs.ClassRules.{IsLeastOther}
+use Rattle.pm_map.specs.declared.admitted.Degrees.TheVariants.{EvenUpTo}
 use Rattle.pm_close.specs.Closure.{IsClosed}
+use Rattle.pm_open.specs.declared.opening.OpenRefusal.{OpenRefusal}
+use Rattle.pm_open.specs.declared.opening.OpenRefusal.TheVariants.{Memory, Degree}
 
 -- the word of a balanced tree whose closure is the same as the map
 pub record IsOpening (map : RotationSystem) (word : List ℕ) : Type 0 where
@@ -20,3 +25,10 @@ pub record IsOpening (map : RotationSystem) (word : List ℕ) : Type 0 where
 -- each vertex has an even degree within the limit
 abbrev pub HasEvenDegrees : Structure → Type 0
 HasEvenDegrees s = (d degree : ℕ) → d < s.darts → IsCycleSize s.next d degree → IsDegree degree
+
+-- What a map is answered that is to be opened: its opening, or the least dart whose vertex has an odd degree or one above
+-- the limit. Want of memory may come at any map.
+abbrev pub IsOpenAnswer : RotationSystem → Result (List ℕ) OpenRefusal → Type 0
+IsOpenAnswer map (Ok word) = IsOpening map word
+IsOpenAnswer map (Err (Degree dart)) = IsLeastOther (structure_of map) (EvenUpTo MAX_DEGREE) dart
+IsOpenAnswer map (Err Memory) = ⊤

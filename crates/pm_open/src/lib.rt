@@ -2,5 +2,7 @@
 #![tactic(auto)]
 
 mod laws;
+mod opening;
 
 pub use laws::opening_is_unique;
+pub use opening::OpenRefusal;
