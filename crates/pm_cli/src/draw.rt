@@ -1,4 +1,5 @@
 ghost use Rattle.std.specs.Prelude.{◌≡◌, IfOk, OnOk};
+ghost use Rattle.pm_lists.specs.Valid.{AreBounds};
 ghost use Rattle.pm_draw.specs.Drawn.{words_of, drawn};
 ghost use Rattle.pm_cli.specs.Drawing.{IsRecord, IsDrawing, HasFirstRecords, RecordsGoOn};
 ghost use Rattle.pm_cli.specs.Ending.{IsWritingRecords};
@@ -37,15 +38,15 @@ fn draw_record<C: MapClass>(
     Ok(text)
 }
 
-// The first records are a front of all: by the laws of the class each list has a record, also where a drawing stops
-// before it comes to that list. Nothing is computed.
-fn records_go_on<C: MapClass>(size: &C::Size, bounds: &Bounds)
+// First records are a front of more: by the laws of the class each list has a record, also those that a drawing which
+// stops early doesn't come to. Nothing is computed.
+fn records_go_on<C: MapClass>(size: &C::Size, limits: &[u64])
     requires size { C.is_size size.now }
-    requires bounds { bounds.now ≡ C.choice_limits size.now }
+    requires limits { limits.now ≡ C.choice_limits size.now }
+    requires bounds { AreBounds limits.now }
     ensures { RecordsGoOn (C.choice_limits size.now) (C.samples size.now) }
 {
     C::is_sampled_once();
-    let _limits = bounds.values();
 }
 
 // `draw CLASS SIZE SEED COUNT`: writes so many records, each made whole before its one write, and hands them on. One
@@ -66,7 +67,7 @@ pub(crate) fn draw<C: MapClass, O: Sink>(
         Ok(bounds) => bounds,
         Err(_) => return Err(Stop::Memory),
     };
-    records_go_on::<C>(size, &bounds);
+    records_go_on::<C>(size, bounds.values());
     let mut rng = rng_of(seed);
     'records: for _place in 0..count {
         let record = match draw_record::<C>(alloc, size, &bounds, &mut rng) {
