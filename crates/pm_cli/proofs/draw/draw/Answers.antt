@@ -1,7 +1,7 @@
 use Rattle.std.proofs.Common.{ℕ, List, take, inr, refl, ap, ◌∙◌, subst, arith}
 use Rattle.pm_io.specs.Bytes.{added}
 use Rattle.pm_io.specs.Faults.{FaultsRose}
-use Rattle.pm_draw.specs.Drawn.{generator_of, words_of, drawn}
+use Rattle.pm_draw.specs.Drawn.{words_of, drawn}
 use Rattle.pm_cli.specs.Drawing.{IsRecord}
 use Rattle.pm_cli.proofs.Records.{none_written, first_written, one_more_written, next_in_front, first_in_front}
 use Rattle.pm_cli.proofs.draw.draw.Goals as goal
