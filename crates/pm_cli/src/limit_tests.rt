@@ -42,11 +42,20 @@ fn many_edges_apart(rt: HostRuntime) -> Result<(), Fail> {
     Ok(())
 }
 
+// The file of a word of so many leaves.
+fn leaves(alloc: Global, count: u32) -> Result<Vec<u8>, AllocError> {
+    let mut text = Vec::new(alloc);
+    text.extend_from_slice(b"tree ")?;
+    for _place in 0..count {
+        text.push(b'l')?;
+    }
+    text.push(b'\n')?;
+    Ok(text)
+}
+
 #[test]
 fn more_letters_than_taken(rt: HostRuntime) -> Result<(), Fail> {
-    let mut text = vec![in rt.alloc(); b'l'; 8_388_614]?;
-    text[..5].copy_from_slice(b"tree ");
-    text[8_388_613] = b'\n';
+    let text = leaves(rt.alloc(), 8_388_608)?;
     let run = run_on(&rt, rt.alloc(), "close eulerian", &text, NONE)?;
     assert_eq!(rt; run.status, 7);
     assert_eq!(rt; run.out.bytes(), b"".as_slice());

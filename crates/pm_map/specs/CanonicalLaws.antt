@@ -1,4 +1,4 @@
--- What canonical maps are for: a rooted map has one, and the maps that are the same are those with equal ones.
+-- What canonical maps are for: a rooted map has no two, and the maps that are the same are those with equal ones.
 use Rattle.std.specs.Prelude.{◌≡◌, ◌↔◌}
 use Rattle.pm_map.specs.Structure.{Same}
 use Rattle.pm_map.specs.Rotation.{RotationSystem, structure_of, IsRootedMap}
