@@ -4,7 +4,7 @@ use Rattle.std.specs.Prelude.{slice_index}
 use Rattle.std.proofs.lemmas.Grind.{same_number_lists}
 use Rattle.pm_perm.proofs.Counts.{count_below-same}
 use Rattle.pm_perm.proofs.Permutations.{IsReached, reached}
-use Rattle.pm_map.specs.Structure.{Structure}
+use Rattle.pm_map.specs.Structure.{Structure, Same}
 use Rattle.pm_map.specs.Rotation.{RotationSystem}
 use Rattle.pm_close.specs.Closure.{IsAcross, IsClosure, IsClosed, edges_before, dart_of}
 use Rattle.pm_close.proofs.TwinLemmas.{HasOnePartner, twin_unique, twin_within}
@@ -37,6 +37,20 @@ closures_next : (places : List ℕ) (a b : Structure) → HasAcross places → I
 closures_next places a b h one two p l =
     let across = h.some p l in
     one.rotation p across.0 l across.1 ∙ sym (two.rotation p across.0 l across.1)
+
+-- the two closures on places are the same
+pub closures_same : (places : List ℕ) (a b : Structure) → HasAcross places → IsClosure places a → IsClosure places b → Same a b
+closures_same places a b h one two =
+    let within : (p : ℕ) → p < a.darts → p < length places = λ p l. omega (arith, l, one.darts) in (
+      λ p. p,
+      record {
+        darts = one.darts ∙ sym two.darts;
+        renumbers = record { stays = λ p l. l; injective = λ p q l m e. e };
+        next = λ p l. closures_next places a b h one two p (within p l);
+        twin = λ p l. closures_twins places a b h one two p (within p l);
+        root = λ some. one.root ∙ sym two.root;
+      },
+    )
 
 same_maps : (a b : RotationSystem) → a.sigma ≡ b.sigma → a.root ≡ b.root → a ≡ b
 same_maps a b s r = ap (made a.root) s ∙ ap (λ (x : ℕ). made x b.sigma) r where

@@ -8,6 +8,7 @@ pub mod NestedEdges
 pub mod Opened
 pub mod OpenedWalk
 pub mod PlaceKinds
+pub mod SomeOpening
 pub mod Spelled
 pub mod SpelledNodes
 pub mod SpelledPairs

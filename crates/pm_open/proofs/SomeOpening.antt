@@ -1,0 +1,50 @@
+-- A map with even degrees has an opening: what the walk over its darts spells.
+use Rattle.std.proofs.Common.{ℕ, ◌<◌, ◌≤◌, ◌*◌, List, length, subst, arith}
+use Rattle.pm_limits.specs.declared.TheConstants.{MAX_EDGES}
+use Rattle.pm_perm.proofs.InverseLemmas.{place_of, place_of-stays}
+use Rattle.pm_trees.specs.Word.{contour}
+use Rattle.pm_map.specs.Structure.{Structure, IsStructure, CarriesTo, Same}
+use Rattle.pm_map.specs.Rotation.{RotationSystem, IsRootedMap, structure_of}
+use Rattle.pm_map.specs.FaceDistance.{AreFaceLevels}
+use Rattle.pm_map.proofs.CarriedSizes.{size_carried}
+use Rattle.pm_map.proofs.CarriedStructure.{euler_carried}
+use Rattle.pm_map.proofs.SameMaps.{carries_back, same_transitive}
+use Rattle.pm_close.specs.Closure.{dart_of}
+use Rattle.pm_close.proofs.OneClosure.{closures_same}
+use Rattle.pm_close.proofs.RootedClosure.{has_across}
+use Rattle.pm_close.proofs.SomeClosure.{each_tree_closes}
+use Rattle.pm_open.specs.Opening.{IsOpening, HasEvenDegrees}
+use Rattle.pm_open.specs.Walked.{IsSpelled}
+use Rattle.pm_open.proofs.Walks.{IsWalked}
+use Rattle.pm_open.proofs.OpenedWalk.{opened}
+use Rattle.pm_open.proofs.Spelled.{spells_a_tree}
+
+-- the degrees stay even where the darts are renumbered
+even_carried : (f : ℕ → ℕ) (a b : Structure) → IsStructure a → IsStructure b → CarriesTo f a b → HasEvenDegrees a → HasEvenDegrees b
+even_carried f a b is also carries even d degree l size =
+    let back : CarriesTo (place_of f a.darts) b a = carries_back f a b is carries in
+    let within : d < a.darts = omega (arith, carries.darts, l) in
+    even (place_of f a.darts d) degree (place_of-stays f a.darts d carries.renumbers within) (size_carried (place_of f a.darts) b a back also.rotation d degree l size)
+
+-- what the walk over the darts of a map spells is its opening
+pub opening_of_walk : (map : RotationSystem) (level : ℕ → ℕ) (w : IsWalked (structure_of map) level) (word : List ℕ) → IsRootedMap map → 0 < length map.sigma
+    → HasEvenDegrees (structure_of map) → AreFaceLevels (structure_of map) level → IsSpelled w.walked w.walked_level (contour word) → IsOpening map word
+opening_of_walk map level w word valid some even levels spelled =
+    let s : Structure = structure_of map in
+    let some_walked : 0 < w.walked.darts = omega (arith, w.carries.darts, some) in
+    let few : w.walked.darts ≤ 2 * MAX_EDGES = subst (λ n. n ≤ 2 * MAX_EDGES) w.carries.darts valid.few in
+    let even_walked : HasEvenDegrees w.walked = even_carried w.rename s w.walked valid.structure w.structure w.carries even in
+    let euler = euler_carried w.rename s w.walked valid.structure w.structure w.carries valid.euler in
+    let is_opened = opened w.walked w.walked_level w.structure some_walked euler w.levels w.in_order (λ d degree h size. (even_walked d degree h size).even) in
+    let tree = spells_a_tree w.walked w.walked_level word w.structure some_walked few even_walked w.levels w.in_order is_opened spelled in
+    let closed = each_tree_closes word tree.0 in
+    let on_places : Same w.walked closed.1.closure = closures_same (contour word) w.walked closed.1.closure (has_across word tree.0) tree.2 closed.1.is_closure in
+    record {
+      blossoming = tree.0;
+      balanced = tree.1;
+      closure = closed.0;
+      is_closure = closed.1;
+      same =
+          same_transitive s w.walked (structure_of closed.0) (w.rename, w.carries)
+          (same_transitive w.walked closed.1.closure (structure_of closed.0) on_places (dart_of closed.1.closure.twin, closed.1.carries));
+    }
