@@ -23,18 +23,12 @@ use Rattle.pm_map.specs.Classes.{degree_of, vertices_of_degree}
 use Rattle.pm_map.proofs.CarriedSizes.{cycle_carried, cycle_back, size_carried}
 use Rattle.pm_map.proofs.CycleSizes.{IsCycleSize-along}
 use Rattle.pm_map.proofs.DegreeCounts.{degree_counts_darts}
+use Rattle.pm_map.proofs.DegreeRules.{cycle_size_is_unique}
 use Rattle.pm_close.specs.Closure.{IsClosed, dart_of}
 use Rattle.pm_close.specs.NodeDegrees.{HasNodeDegrees, DegreesAreKept}
 use Rattle.pm_close.proofs.ClosureLemmas.{bracketing_across}
 use Rattle.pm_close.proofs.Heads.{head_size, some_head, one_head}
 use Rattle.pm_close.proofs.PlaneMap.{rooted_closure}
-
--- a cycle has one size
-one_size : (f : ℕ → ℕ) (d a b : ℕ) → IsCycleSize f d a → IsCycleSize f d b → a ≡ b
-one_size f d a b x y = elim (cases_lt a b) [
-  | inl less ↦ absurd (y.least a x.some less x.back)
-  | inr more ↦ elim (cases_lt b a) [ inl less ↦ absurd (x.least b y.some less y.back) | inr same ↦ omega arith ]
-]
 
 -- the number of nodes of a degree counts the places that name one
 nodes_are_counted : (places : List ℕ) (d n : ℕ) → nodes_before places d n ≡ count_below (has_degree places d) n
@@ -212,7 +206,7 @@ module _ (word : List ℕ) (map : RotationSystem) (order : IsInOrder word) (othe
   vertices_le k =
       count_below-into (is_vertex k) (has_degree (contour word) k) node_of (length map.sigma) (length (contour word))
       (λ d l test. node_within word (node_of d) (node_of_is d l).is_node)
-      (λ d l test. names (contour word) k (node_of d) (node_of_is d l).is_node (one_size (slice_index map.sigma) d (degree (contour word) (node_of d)) k (degree_of_node d (node_of d) (node_of_is d l)) (passed k d l test).1))
+      (λ d l test. names (contour word) k (node_of d) (node_of_is d l).is_node (cycle_size_is_unique (slice_index map.sigma) d (degree (contour word) (node_of d)) k (degree_of_node d (node_of d) (node_of_is d l)) (passed k d l test).1))
       (λ d e l m dt et same. same_dart d e l m (passed k d l dt).0 (passed k e m et).0 same) where
         same_dart : (d e : ℕ) → d < length map.sigma → e < length map.sigma → leads d ≡ d → leads e ≡ e → node_of d ≡ node_of e → d ≡ e
         same_dart d e l m lead_d lead_e same =

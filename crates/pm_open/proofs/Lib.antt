@@ -2,6 +2,7 @@ pub mod Cutting
 pub mod EvenCounts
 pub mod FirstMet
 pub mod Folded
+pub mod KeptByOpening
 pub mod KeptEdges
 pub mod LevelsAlong
 pub mod NestedEdges

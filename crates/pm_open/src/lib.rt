@@ -4,5 +4,5 @@
 mod laws;
 mod opening;
 
-pub use laws::opening_is_unique;
+pub use laws::{each_map_opens_once, levels_are_face_distances, openings_keep_degrees};
 pub use opening::OpenRefusal;
