@@ -1,6 +1,6 @@
 pub mod Cutting
+pub mod EdgeKinds
 pub mod EvenCounts
-pub mod FirstMet
 pub mod Folded
 pub mod KeptByOpening
 pub mod KeptEdges

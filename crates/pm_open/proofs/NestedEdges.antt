@@ -1,6 +1,6 @@
 -- In a plane structure whose darts are numbered along the walk, the edges that are cut are nested, and so are the others.
-use Rattle.std.proofs.Common.{◌≡◌, ℕ, suc, ◌+◌, ◌*◌, ◌/◌, ◌%◌, ◌<◌, ◌⊎◌, inl, inr, true, false, nat_lt, nat_eq, sym, ◌∙◌, ap, subst, arith}
-use Rattle.std.proofs.lemmas.Bool.{cases_Bool, cases_order, cond-true, cond-false, lt-ltb, le-ltb, ne_eqb}
+use Rattle.std.proofs.Common.{◌≡◌, ℕ, suc, ◌+◌, ◌*◌, ◌/◌, ◌%◌, ◌<◌, inl, inr, false, nat_eq, sym, ◌∙◌, ap, subst, arith}
+use Rattle.std.proofs.lemmas.Bool.{cases_Bool, cond-false, ne_eqb}
 use Rattle.pm_perm.specs.Cycles.{cycles}
 use Rattle.pm_perm.specs.Exchange.{IsProductBelow}
 use Rattle.pm_perm.specs.Pairs.{IsInvolutionBelow, IsNestedBelow, pairs}
@@ -8,67 +8,32 @@ use Rattle.pm_perm.proofs.PairCounts.{pairs-all}
 use Rattle.pm_perm.proofs.Renumbered.{ring-mod}
 use Rattle.pm_map.specs.Structure.{Structure, IsStructure, face_next}
 use Rattle.pm_map.specs.Plane.{HasEulerTwo}
-use Rattle.pm_open.specs.Walked.{is_up, first_of, is_cut, across, IsWalkedInOrder}
+use Rattle.pm_open.specs.Walked.{is_cut, across, IsWalkedInOrder}
 use Rattle.pm_open.proofs.Opened.{partner}
+use Rattle.pm_open.proofs.EdgeKinds.{cut_twin, across_cut, across_kept, partner_cut, partner_kept}
 use Rattle.pm_perm.proofs.BothNested.{pairs-parted, both_nested}
-
--- the dart of an edge that is met first is its lesser dart
-pub first-lesser : (s : Structure) (d : ℕ) → d < s.twin d → first_of s d ≡ d
-first-lesser s d h = cond-false (nat_lt (s.twin d) d) (s.twin d) d (le-ltb (s.twin d) d (omega (arith, h)))
-
-pub first-greater : (s : Structure) (d : ℕ) → s.twin d < d → first_of s d ≡ s.twin d
-first-greater s d h = cond-true (nat_lt (s.twin d) d) (s.twin d) d (lt-ltb (s.twin d) d h)
-
--- a dart is the lesser of its edge or the greater
-pub lesser_or_greater : (s : Structure) (d : ℕ) → IsStructure s → d < s.darts → (d < s.twin d) ⊎ (s.twin d < d)
-lesser_or_greater s d is h = elim (cases_order d (s.twin d)) [ inl same ↦ absurd (is.twin_other d h (sym same)) | inr apart ↦ apart ]
-
--- both darts of an edge have the same first one
-first-same : (s : Structure) (d : ℕ) → IsStructure s → d < s.darts → first_of s (s.twin d) ≡ first_of s d
-first-same s d is h =
-    let back : s.twin (s.twin d) ≡ d = is.twin_back d h in
-    elim (lesser_or_greater s d is h) [
-      | inl less ↦ first-greater s (s.twin d) (omega (arith, back, less)) ∙ back ∙ sym (first-lesser s d less)
-      | inr more ↦ first-lesser s (s.twin d) (omega (arith, back, more)) ∙ sym (first-greater s d more)
-    ]
-
--- an edge is cut at both of its darts or at none
-pub cut-same : (s : Structure) (level : ℕ → ℕ) (d : ℕ) → IsStructure s → d < s.darts → is_cut s level (s.twin d) ≡ is_cut s level d
-cut-same s level d is h = ap (is_up s level) (first-same s d is h)
-
-pub across-cut : (s : Structure) (level : ℕ → ℕ) (d : ℕ) → is_cut s level d ≡ true → across s level d ≡ d
-across-cut s level d e = cond-true (is_cut s level d) d (s.twin d) e
-
-pub across-kept : (s : Structure) (level : ℕ → ℕ) (d : ℕ) → is_cut s level d ≡ false → across s level d ≡ s.twin d
-across-kept s level d e = cond-false (is_cut s level d) d (s.twin d) e
-
-pub partner-cut : (s : Structure) (level : ℕ → ℕ) (d : ℕ) → is_cut s level d ≡ true → partner s level d ≡ s.twin d
-partner-cut s level d e = cond-true (is_cut s level d) (s.twin d) d e
-
-pub partner-kept : (s : Structure) (level : ℕ → ℕ) (d : ℕ) → is_cut s level d ≡ false → partner s level d ≡ d
-partner-kept s level d e = cond-false (is_cut s level d) (s.twin d) d e
 
 pub across-involution : (s : Structure) (level : ℕ → ℕ) → IsStructure s → IsInvolutionBelow s.darts (across s level)
 across-involution s level is = record {
   stays = λ d h. elim (cases_Bool (is_cut s level d)) [
-    | inl cut ↦ subst (λ e. e < s.darts) (sym (across-cut s level d cut)) h
-    | inr kept ↦ subst (λ e. e < s.darts) (sym (across-kept s level d kept)) (is.twin_stays d h)
+    | inl cut ↦ subst (λ e. e < s.darts) (sym (across_cut s level d cut)) h
+    | inr kept ↦ subst (λ e. e < s.darts) (sym (across_kept s level d kept)) (is.twin_stays d h)
   ];
   twice = λ d h. elim (cases_Bool (is_cut s level d)) [
-    | inl cut ↦ ap (across s level) (across-cut s level d cut) ∙ across-cut s level d cut
-    | inr kept ↦ ap (across s level) (across-kept s level d kept) ∙ across-kept s level (s.twin d) (cut-same s level d is h ∙ kept) ∙ is.twin_back d h
+    | inl cut ↦ ap (across s level) (across_cut s level d cut) ∙ across_cut s level d cut
+    | inr kept ↦ ap (across s level) (across_kept s level d kept) ∙ across_kept s level (s.twin d) (cut_twin s level d is h ∙ kept) ∙ is.twin_back d h
   ];
 }
 
 pub partner-involution : (s : Structure) (level : ℕ → ℕ) → IsStructure s → IsInvolutionBelow s.darts (partner s level)
 partner-involution s level is = record {
   stays = λ d h. elim (cases_Bool (is_cut s level d)) [
-    | inl cut ↦ subst (λ e. e < s.darts) (sym (partner-cut s level d cut)) (is.twin_stays d h)
-    | inr kept ↦ subst (λ e. e < s.darts) (sym (partner-kept s level d kept)) h
+    | inl cut ↦ subst (λ e. e < s.darts) (sym (partner_cut s level d cut)) (is.twin_stays d h)
+    | inr kept ↦ subst (λ e. e < s.darts) (sym (partner_kept s level d kept)) h
   ];
   twice = λ d h. elim (cases_Bool (is_cut s level d)) [
-    | inl cut ↦ ap (partner s level) (partner-cut s level d cut) ∙ partner-cut s level (s.twin d) (cut-same s level d is h ∙ cut) ∙ is.twin_back d h
-    | inr kept ↦ ap (partner s level) (partner-kept s level d kept) ∙ partner-kept s level d kept
+    | inl cut ↦ ap (partner s level) (partner_cut s level d cut) ∙ partner_cut s level (s.twin d) (cut_twin s level d is h ∙ cut) ∙ is.twin_back d h
+    | inr kept ↦ ap (partner s level) (partner_kept s level d kept) ∙ partner_kept s level d kept
   ];
 }
 
@@ -83,15 +48,15 @@ pub face-partner : (s : Structure) (level : ℕ → ℕ) (d : ℕ) → IsStructu
 face-partner s level d is walked h =
     next-across s level (s.twin d) is walked (is.twin_stays d h)
     ∙ ap (λ e. suc e % s.darts) (elim (cases_Bool (is_cut s level d)) [
-      | inl cut ↦ across-cut s level (s.twin d) (cut-same s level d is h ∙ cut) ∙ sym (partner-cut s level d cut)
-      | inr kept ↦ across-kept s level (s.twin d) (cut-same s level d is h ∙ kept) ∙ is.twin_back d h ∙ sym (partner-kept s level d kept)
+      | inl cut ↦ across_cut s level (s.twin d) (cut_twin s level d is h ∙ cut) ∙ sym (partner_cut s level d cut)
+      | inr kept ↦ across_kept s level (s.twin d) (cut_twin s level d is h ∙ kept) ∙ is.twin_back d h ∙ sym (partner_kept s level d kept)
     ])
 
 -- the edges are those that are cut and the others
 kinds : (s : Structure) (level : ℕ → ℕ) → pairs s.darts (across s level) + pairs s.darts (partner s level) ≡ pairs s.darts s.twin
 kinds s level = pairs-parted s.darts s.twin (across s level) (partner s level) (λ d h. elim (cases_Bool (is_cut s level d)) [
-  | inl cut ↦ inr (across-cut s level d cut, partner-cut s level d cut)
-  | inr kept ↦ inl (across-kept s level d kept, partner-kept s level d kept)
+  | inl cut ↦ inr (across_cut s level d cut, partner_cut s level d cut)
+  | inr kept ↦ inl (across_kept s level d kept, partner_kept s level d kept)
 ])
 
 -- vertices and faces in numbers, where there is a dart

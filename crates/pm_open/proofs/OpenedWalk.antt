@@ -13,7 +13,8 @@ use Rattle.pm_map.proofs.UniqueMeeting.{vertex_begins}
 use Rattle.pm_map.proofs.CarriedMeeting.{AreBelow, vertex_below}
 use Rattle.pm_open.specs.Walked.{is_up, is_cut, across, IsWalkedInOrder}
 use Rattle.pm_open.proofs.Opened.{partner, IsOpened}
-use Rattle.pm_open.proofs.NestedEdges.{lesser_or_greater, cut-same, across-involution, partner-involution, edges_nested}
+use Rattle.pm_open.proofs.EdgeKinds.{lesser_or_greater, cut_twin}
+use Rattle.pm_open.proofs.NestedEdges.{across-involution, partner-involution, edges_nested}
 use Rattle.pm_open.proofs.LevelsAlong.{level-next, level-along_cut, level-along_kept, cut-up, cut-one}
 use Rattle.pm_open.proofs.KeptEdges.{kept-down}
 
@@ -92,7 +93,7 @@ changes-by_one s level is down = record {
       | inl less ↦ inr (down d h kept less)
       | inr more ↦
           let back : s.twin (s.twin d) ≡ d = is.twin_back d h in
-          inl (down (s.twin d) (is.twin_stays d h) (cut-same s level d is h ∙ kept) (omega (arith, back, more)) ∙ ap (λ (e : ℕ). suc (level e)) back)
+          inl (down (s.twin d) (is.twin_stays d h) (cut_twin s level d is h ∙ kept) (omega (arith, back, more)) ∙ ap (λ (e : ℕ). suc (level e)) back)
     ]
   ];
 }

@@ -17,7 +17,8 @@ use Rattle.pm_close.specs.Closure.{IsClosure, IsAcross, from_open, from_close, f
 use Rattle.pm_close.proofs.TwinLemmas.{two_letters, by_letter, twins_back}
 use Rattle.pm_open.specs.Walked.{is_cut, across, IsWalkedInOrder, IsSpelled}
 use Rattle.pm_open.proofs.Opened.{partner, IsOpened}
-use Rattle.pm_open.proofs.PlaceKinds.{IsKind, a_plant, a_bud, a_leaf, an_open, a_close, kind, cut_twin, across_cut, across_kept, partner_cut}
+use Rattle.pm_open.proofs.EdgeKinds.{cut_twin, across_cut, across_kept, partner_cut}
+use Rattle.pm_open.proofs.PlaceKinds.{IsKind, a_plant, a_bud, a_leaf, an_open, a_close, kind}
 use Rattle.pm_open.proofs.Folded.{IsFolded, folded_below, folded_equal}
 
 -- a structure with what its walk leaves, and the letters along the walk

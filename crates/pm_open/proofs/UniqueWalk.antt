@@ -10,7 +10,7 @@ use Rattle.pm_map.specs.FaceDistance.{IsFaceDistance, AreFaceLevels}
 use Rattle.pm_map.proofs.DistanceLemmas.{levels_are_distances, distances_are_carried}
 use Rattle.pm_close.proofs.ClosureLemmas.{succ_inside}
 use Rattle.pm_open.specs.Walked.{is_up, first_of, is_cut, across, letter_of, IsWalkedInOrder, IsSpelled}
-use Rattle.pm_open.proofs.FirstMet.{first_is_twin, first_is_own}
+use Rattle.pm_open.proofs.EdgeKinds.{first_is_twin, first_is_own}
 
 -- the distance to a face is one number
 one_distance : (s : Structure) (d e a b : ℕ) → IsFaceDistance s d e a → IsFaceDistance s d e b → a ≡ b
