@@ -8,7 +8,7 @@ pub fn each_map_opens_once()
     ensures one { HasOneOpening }
 {}
 
-/// A law: the level of a dart of a closure is the distance of its face from the root's face.
+/// A law: in the closure of a balanced tree the level of a place is the distance of its face from the root's face.
 pub fn levels_are_face_distances()
     ensures levels { LevelsAreFaceDistances }
 {}
