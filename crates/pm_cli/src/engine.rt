@@ -136,6 +136,9 @@ fn write_line<E: Sink>(err: &mut E, line: &[u8])
 /// statuses are 0 for an answer; 2 for words that are no command; 3, 4, 6, 7 and 12 for a file that is refused by its text,
 /// its list, its map, a limit or the tree's rules; 5 where `input` failed, 8 where `out` failed and 9 where memory was
 /// wanting, which may show before anything is read where a word spells a profile. A failing `err` changes no status.
+///
+/// At 8 there is an answer, and a front of it was added to `out`. At 9 nothing was added, or by a command that draws the
+/// first records of the answer, which there is.
 pub fn run<S: Source, O: Sink, E: Sink>(
     alloc: Global,
     words: &[String],
