@@ -9,7 +9,7 @@ use Rattle.pm_perm.proofs.PartPairs.{involution-permutes}
 use Rattle.pm_perm.proofs.Renumbered.{product-permutes}
 use Rattle.pm_perm.proofs.Repeats.{repeated-inside}
 use Rattle.pm_map.specs.Structure.{Structure, IsStructure}
-use Rattle.pm_open.specs.Walked.{is_up}
+use Rattle.pm_open.proofs.Walked.{is_up}
 
 -- edges that are cut, told by a test of darts that says the same of twins
 pub record IsCutting (s : Structure) (cut : ℕ → Bool) : Type 0 where

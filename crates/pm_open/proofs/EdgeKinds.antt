@@ -2,7 +2,7 @@
 use Rattle.std.proofs.Common.{◌≡◌, ℕ, suc, ◌<◌, ◌≤◌, ◌⊎◌, inl, inr, Bool, true, false, cond, sym, ap, ◌∙◌, arith}
 use Rattle.std.proofs.lemmas.Bool.{cases_order, cond-true, cond-false, lt-ltb, le-ltb, eq-eqb, ne_eqb}
 use Rattle.pm_map.specs.Structure.{Structure, IsStructure}
-use Rattle.pm_open.specs.Walked.{is_up, first_of, is_cut, across}
+use Rattle.pm_open.proofs.Walked.{is_up, first_of, is_cut, across}
 use Rattle.pm_open.proofs.Opened.{partner}
 
 -- a dart is the lesser of its edge or the greater

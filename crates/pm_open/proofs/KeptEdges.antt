@@ -10,7 +10,7 @@ use Rattle.pm_map.specs.Structure.{Structure, IsStructure}
 use Rattle.pm_map.specs.CycleSize.{IsCycleSize}
 use Rattle.pm_map.specs.FaceDistance.{AreFaceLevels}
 use Rattle.pm_map.proofs.DegreeCounts.{HasSize, has_size, degree_counts_darts}
-use Rattle.pm_open.specs.Walked.{is_cut, across, IsWalkedInOrder}
+use Rattle.pm_open.proofs.Walked.{is_cut, across, IsWalkedInOrder}
 use Rattle.pm_open.proofs.EvenCounts.{even_in_pairs, even_in_cycles}
 use Rattle.pm_open.proofs.Stretches.{is_between, between-in, between-bounds, count_below-between, stretch-kept}
 use Rattle.pm_open.proofs.EdgeKinds.{cut_twin, across_kept}

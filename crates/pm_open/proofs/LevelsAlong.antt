@@ -6,7 +6,7 @@ use Rattle.pm_perm.specs.Pairs.{IsRingBelow}
 use Rattle.pm_perm.proofs.Renumbered.{ring-mod}
 use Rattle.pm_map.specs.Structure.{Structure, IsStructure}
 use Rattle.pm_map.specs.FaceDistance.{AreFaceLevels}
-use Rattle.pm_open.specs.Walked.{is_cut, IsWalkedInOrder}
+use Rattle.pm_open.proofs.Walked.{is_cut, IsWalkedInOrder}
 use Rattle.pm_open.proofs.EdgeKinds.{lesser_or_greater, cut_is_up, cut_is_twin_up, across_cut, across_kept}
 
 -- the next dart around a vertex has the level of the twin

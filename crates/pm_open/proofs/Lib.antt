@@ -1,6 +1,7 @@
 pub mod Cutting
 pub mod EdgeKinds
 pub mod EvenCounts
+pub mod EvenDegrees
 pub mod Folded
 pub mod KeptByOpening
 pub mod KeptEdges
@@ -18,5 +19,6 @@ pub mod TreeLevels
 pub mod TreeWalk
 pub mod UniqueOpening
 pub mod UniqueWalk
+pub mod Walked
 pub mod Walks
 pub mod WholeWalk

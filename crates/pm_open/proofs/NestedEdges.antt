@@ -8,7 +8,7 @@ use Rattle.pm_perm.proofs.PairCounts.{pairs-all}
 use Rattle.pm_perm.proofs.Renumbered.{ring-mod}
 use Rattle.pm_map.specs.Structure.{Structure, IsStructure, face_next}
 use Rattle.pm_map.specs.Plane.{HasEulerTwo}
-use Rattle.pm_open.specs.Walked.{is_cut, across, IsWalkedInOrder}
+use Rattle.pm_open.proofs.Walked.{is_cut, across, IsWalkedInOrder}
 use Rattle.pm_open.proofs.Opened.{partner}
 use Rattle.pm_open.proofs.EdgeKinds.{cut_twin, across_cut, across_kept, partner_cut, partner_kept}
 use Rattle.pm_perm.proofs.BothNested.{pairs-parted, both_nested}

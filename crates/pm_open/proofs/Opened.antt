@@ -4,7 +4,7 @@ use Rattle.std.specs.List.{count_by}
 use Rattle.pm_perm.specs.Pairs.{IsInvolutionBelow, IsNestedBelow}
 use Rattle.pm_map.specs.Structure.{Structure}
 use Rattle.pm_map.specs.Meeting.{IsVertexFrom}
-use Rattle.pm_open.specs.Walked.{is_up, is_cut, across}
+use Rattle.pm_open.proofs.Walked.{is_up, is_cut, across}
 
 -- the partner of a dart: on an edge that is cut its twin, on another one the dart itself
 abbrev pub partner : Structure → (ℕ → ℕ) → ℕ → ℕ

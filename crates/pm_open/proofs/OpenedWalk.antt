@@ -11,7 +11,7 @@ use Rattle.pm_map.specs.FaceDistance.{AreFaceLevels}
 use Rattle.pm_map.specs.Meeting.{IsVertexFrom}
 use Rattle.pm_map.proofs.UniqueMeeting.{vertex_begins}
 use Rattle.pm_map.proofs.CarriedMeeting.{AreBelow, vertex_below}
-use Rattle.pm_open.specs.Walked.{is_up, is_cut, across, IsWalkedInOrder}
+use Rattle.pm_open.proofs.Walked.{is_up, is_cut, across, IsWalkedInOrder}
 use Rattle.pm_open.proofs.Opened.{partner, IsOpened}
 use Rattle.pm_open.proofs.EdgeKinds.{lesser_or_greater, cut_twin}
 use Rattle.pm_open.proofs.NestedEdges.{across-involution, partner-involution, edges_nested}

@@ -4,7 +4,7 @@ use Rattle.std.specs.Prelude.{slice_index}
 use Rattle.std.proofs.lemmas.Bool.{cases_lt, cases_eq, cases_Bool, lt-ltb, le-ltb}
 use Rattle.pm_trees.specs.declared.letters.TheConstants.{LEAF, BUD, OPEN, CLOSE}
 use Rattle.pm_map.specs.Structure.{Structure, IsStructure}
-use Rattle.pm_open.specs.Walked.{is_cut, letter_of, IsSpelled}
+use Rattle.pm_open.proofs.Walked.{is_cut, letter_of, IsSpelled}
 use Rattle.pm_open.proofs.EdgeKinds.{cut_is_up}
 
 -- the edge of the root is cut

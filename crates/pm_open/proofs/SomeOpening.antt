@@ -1,37 +1,29 @@
 -- A map with even degrees has an opening: what the walk over its darts spells.
 use Rattle.std.proofs.Common.{◌≡◌, ℕ, ◌<◌, ◌≤◌, ◌*◌, List, length, subst, arith}
 use Rattle.pm_limits.specs.declared.TheConstants.{MAX_DEGREE, MAX_EDGES}
-use Rattle.pm_perm.proofs.InverseLemmas.{place_of, place_of-stays}
 use Rattle.pm_trees.specs.Node.{IsDegree}
 use Rattle.pm_trees.specs.Word.{contour}
 use Rattle.pm_map.specs.declared.admitted.Degrees.TheVariants.{EvenUpTo}
-use Rattle.pm_map.specs.Structure.{Structure, IsStructure, CarriesTo, Same}
+use Rattle.pm_map.specs.Structure.{Structure, Same}
 use Rattle.pm_map.specs.Rotation.{RotationSystem, IsRootedMap, structure_of}
 use Rattle.pm_map.specs.FaceDistance.{AreFaceLevels}
 use Rattle.pm_map.specs.ClassRules.{AllAdmitted}
-use Rattle.pm_map.proofs.CarriedSizes.{size_carried}
 use Rattle.pm_map.proofs.CarriedStructure.{euler_carried}
 use Rattle.pm_map.proofs.DegreeRules.{cycle_size_is_unique}
 use Rattle.pm_map.proofs.DistanceLemmas.{levels_are_distances}
 use Rattle.pm_map.proofs.DistanceRounds.{each_face_has_distance}
-use Rattle.pm_map.proofs.SameMaps.{carries_back, same_transitive}
+use Rattle.pm_map.proofs.SameMaps.{same_transitive}
 use Rattle.pm_close.specs.Closure.{dart_of}
 use Rattle.pm_close.proofs.OneClosure.{closures_same}
 use Rattle.pm_close.proofs.RootedClosure.{has_across}
 use Rattle.pm_close.proofs.SomeClosure.{each_tree_closes}
-use Rattle.pm_open.specs.Opening.{IsOpening, HasEvenDegrees}
+use Rattle.pm_open.specs.Opening.{IsOpening}
 use Rattle.pm_open.specs.Laws.{EachMapOpens}
-use Rattle.pm_open.specs.Walked.{IsSpelled}
+use Rattle.pm_open.proofs.EvenDegrees.{HasEvenDegrees, even_carried}
+use Rattle.pm_open.proofs.Walked.{IsSpelled}
 use Rattle.pm_open.proofs.Walks.{IsWalked, each_map_is_walked}
 use Rattle.pm_open.proofs.OpenedWalk.{opened}
 use Rattle.pm_open.proofs.Spelled.{spells_a_word, spells_a_tree}
-
--- the degrees stay even where the darts are renumbered
-even_carried : (f : ℕ → ℕ) (a b : Structure) → IsStructure a → IsStructure b → CarriesTo f a b → HasEvenDegrees a → HasEvenDegrees b
-even_carried f a b is also carries even d degree l size =
-    let back : CarriesTo (place_of f a.darts) b a = carries_back f a b is carries in
-    let within : d < a.darts = omega (arith, carries.darts, l) in
-    even (place_of f a.darts d) degree (place_of-stays f a.darts d carries.renumbers within) (size_carried (place_of f a.darts) b a back also.rotation d degree l size)
 
 -- what the walk over the darts of a map spells is its opening
 pub opening_of_walk : (map : RotationSystem) (level : ℕ → ℕ) (w : IsWalked (structure_of map) level) (word : List ℕ) → IsRootedMap map → 0 < length map.sigma

@@ -17,8 +17,8 @@ use Rattle.pm_close.specs.Nodes.{IsHead, IsNodeVertex}
 use Rattle.pm_close.proofs.TwinLemmas.{within}
 use Rattle.pm_close.proofs.NodeVertices.{node_vertices}
 use Rattle.pm_close.proofs.Heads.{vertex_steps, vertex_size, vertex_length, root_head, head_is, one_head}
-use Rattle.pm_open.specs.Opening.{HasEvenDegrees}
-use Rattle.pm_open.specs.Walked.{is_up, is_cut}
+use Rattle.pm_open.proofs.EvenDegrees.{HasEvenDegrees}
+use Rattle.pm_open.proofs.Walked.{is_up, is_cut}
 use Rattle.pm_open.proofs.EdgeKinds.{cut_twin, cut_is_up}
 use Rattle.pm_open.proofs.PlaceKinds.{a_plant, a_bud, a_leaf, an_open, a_close}
 use Rattle.pm_open.proofs.SpelledPairs.{IsReadAlong, kind_of, in_order}

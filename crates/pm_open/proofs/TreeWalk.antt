@@ -22,7 +22,7 @@ use Rattle.pm_close.proofs.ClosureLemmas.{bracketing_across, succ_inside, succ_l
 use Rattle.pm_close.proofs.ClosureStructure.{closure_structure}
 use Rattle.pm_close.proofs.LowWords.{low_word, leaves_of, buds_of}
 use Rattle.pm_close.proofs.RootedClosure.{has_across}
-use Rattle.pm_open.specs.Walked.{is_cut, across, letter_of, IsWalkedInOrder, IsSpelled}
+use Rattle.pm_open.proofs.Walked.{is_cut, across, letter_of, IsWalkedInOrder, IsSpelled}
 use Rattle.pm_open.proofs.EdgeKinds.{cut_at_own, kept_at_own, cut_at_twin, kept_at_twin}
 use Rattle.pm_open.proofs.TreeLevels.{IsMeasured, IsEdge, brackets, cut, edge, level_around}
 

@@ -9,7 +9,7 @@ use Rattle.pm_map.specs.Structure.{Structure, IsStructure, CarriesTo}
 use Rattle.pm_map.specs.FaceDistance.{IsFaceDistance, AreFaceLevels}
 use Rattle.pm_map.proofs.DistanceLemmas.{levels_are_distances, distances_are_carried}
 use Rattle.pm_close.proofs.ClosureLemmas.{succ_inside}
-use Rattle.pm_open.specs.Walked.{is_up, first_of, is_cut, across, letter_of, IsWalkedInOrder, IsSpelled}
+use Rattle.pm_open.proofs.Walked.{is_up, first_of, is_cut, across, letter_of, IsWalkedInOrder, IsSpelled}
 use Rattle.pm_open.proofs.EdgeKinds.{first_is_twin, first_is_own}
 
 -- the distance to a face is one number

@@ -11,7 +11,7 @@ use Rattle.pm_map.specs.Structure.{Structure, IsStructure, CarriesTo}
 use Rattle.pm_map.specs.FaceDistance.{AreFaceLevels}
 use Rattle.pm_map.proofs.CarriedStructure.{structure_carried}
 use Rattle.pm_map.proofs.DistanceLemmas.{levels_carried}
-use Rattle.pm_open.specs.Walked.{is_up, first_of, is_cut, across, IsWalkedInOrder}
+use Rattle.pm_open.proofs.Walked.{is_up, first_of, is_cut, across, IsWalkedInOrder}
 use Rattle.pm_open.proofs.Cutting.{HasCut, has_cut, across_by, step_by, dart_after, step_by-permutes}
 use Rattle.pm_open.proofs.WholeWalk.{IsDecidedWalk, met_reached, all_met}
 

@@ -1,4 +1,3 @@
 pub mod Distances
 pub mod Laws
 pub mod Opening
-pub mod Walked

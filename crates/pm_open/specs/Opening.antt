@@ -1,13 +1,11 @@
 -- The opening of a map (Schaeffer 1997): the balanced tree whose closure it is, up to the names of darts.
-use Rattle.std.specs.Prelude.{ℕ, ◌<◌, List, Result, Ok, Err, ⊤}
+use Rattle.std.specs.Prelude.{ℕ, List, Result, Ok, Err, ⊤}
 use Rattle.pm_limits.specs.declared.TheConstants.{MAX_DEGREE}
-use Rattle.pm_trees.specs.Node.{IsDegree}
 use Rattle.pm_trees.specs.Word.{contour}
 use Rattle.pm_trees.specs.Blossoming.{IsBlossoming}
 use Rattle.pm_match.specs.Pair.{IsBalanced}
-use Rattle.pm_map.specs.Structure.{Structure, Same}
+use Rattle.pm_map.specs.Structure.{Same}
 use Rattle.pm_map.specs.Rotation.{RotationSystem, structure_of}
-use Rattle.pm_map.specs.CycleSize.{IsCycleSize}
 use Rattle.pm_map.specs.ClassRules.{IsLeastOther}
 use Rattle.pm_map.specs.declared.admitted.Degrees.TheVariants.{EvenUpTo}
 use Rattle.pm_close.specs.Closure.{IsClosed}
@@ -21,10 +19,6 @@ pub record IsOpening (map : RotationSystem) (word : List ℕ) : Type 0 where
   pub closure : RotationSystem
   pub is_closure : IsClosed (contour word) closure
   pub same : Same (structure_of map) (structure_of closure)
-
--- each vertex has an even degree within the limit
-abbrev pub HasEvenDegrees : Structure → Type 0
-HasEvenDegrees s = (d degree : ℕ) → d < s.darts → IsCycleSize s.next d degree → IsDegree degree
 
 -- What a map is answered that is to be opened: its opening, or the least dart whose vertex has an odd degree or one above
 -- the limit. Want of memory may come at any map.
