@@ -9,6 +9,7 @@ pub mod LevelsAlong
 pub mod NestedEdges
 pub mod Opened
 pub mod OpenedWalk
+pub mod PassedDarts
 pub mod PlaceKinds
 pub mod SomeOpening
 pub mod Spelled
@@ -19,6 +20,7 @@ pub mod TreeLevels
 pub mod TreeWalk
 pub mod UniqueOpening
 pub mod UniqueWalk
+pub mod WalkLoop
 pub mod Walked
 pub mod Walks
 pub mod WholeWalk

@@ -1,3 +1,4 @@
 pub mod Distances
 pub mod Laws
 pub mod Opening
+pub mod Passing

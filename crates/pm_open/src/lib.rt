@@ -1,8 +1,10 @@
 //! Opening: from a plane map with even degrees back to the balanced tree that closes to it.
 #![tactic(auto)]
 
+mod distances;
 mod laws;
 mod opening;
+mod walking;
 
 pub use laws::{each_map_opens_once, levels_are_face_distances, openings_keep_degrees};
-pub use opening::OpenRefusal;
+pub use opening::{OpenRefusal, open_map};

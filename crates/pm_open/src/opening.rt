@@ -1,3 +1,14 @@
+ghost use Rattle.std.specs.Prelude.{◌≡◌, ◌<◌, length};
+ghost use Rattle.pm_open.specs.Opening.{IsOpenAnswer};
+ghost use Rattle.pm_open.specs.declared.opening.OpenRefusal.TheVariants.{Memory};
+
+use crate::distances::face_distances;
+use crate::walking::word_along;
+use pm_limits::MAX_DEGREE;
+use pm_map::{Degrees, RootedMap};
+use pm_trees::Tree;
+use std::alloc::{AllocError, Global};
+
 /// Why a map isn't opened.
 #[derive(Clone, Copy, Debug, PartialEq, Eq)]
 pub enum OpenRefusal {
@@ -5,4 +16,33 @@ pub enum OpenRefusal {
     Memory,
     /// The vertex of this dart has an odd degree or one above `MAX_DEGREE`; it is the least such dart.
     Degree { dart: u32 },
+}
+
+impl From<AllocError> for OpenRefusal {
+    ghost from_gives = { λ _ refusal. refusal ≡ Memory };
+
+    fn from(_: AllocError) -> OpenRefusal {
+        OpenRefusal::Memory
+    }
+}
+
+/// Opens a map that has a dart and even degrees: the balanced tree whose closure is the map, up to the names of darts
+/// (Schaeffer 1997). It takes time linear in the darts.
+///
+/// # Errors
+///
+/// `Degree` exactly where a vertex has an odd degree or one above `MAX_DEGREE`, with the least dart of such a vertex.
+pub fn open_map(alloc: Global, map: &RootedMap) -> Result<Tree, OpenRefusal>
+    requires { 0 < length map.now.sigma }
+    ensures { IsOpenAnswer map.now result }
+{
+    let even = Degrees::EvenUpTo {
+        greatest: MAX_DEGREE,
+    };
+    if let Some(dart) = map.vertex_of_other_degree(alloc, even)? {
+        return Err(OpenRefusal::Degree { dart });
+    }
+    let distances = face_distances(alloc, map)?;
+    let word = word_along(alloc, map, &distances)?;
+    Ok(Tree::of_word(word))
 }

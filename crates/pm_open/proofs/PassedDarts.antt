@@ -1,0 +1,221 @@
+-- The steps of the walk that opens a map, as the code takes them.
+use Rattle.std.proofs.Common.{◌≡◌, ◌≢◌, ℕ, zero, suc, ◌+◌, ◌-◌, ◌*◌, ◌/◌, ◌%◌, ◌<◌, ◌≤◌, ◌⊎◌, inl, inr, Bool, true, false, cond, List, [], ◌∷◌, ◌++◌, length, get_or, set, refl, sym, ap, ◌∙◌, subst, arith}
+use Rattle.std.proofs.Math.Nat.{mod-eq_of_lt}
+use Rattle.std.specs.Prelude.{slice_index, slice_index_or}
+use Rattle.std.proofs.lemmas.Bool.{cases_Bool, cases_lt, cases_eq, cond-true, cond-false}
+use Rattle.std.proofs.lemmas.List.{get_or-set_other}
+use Rattle.std.proofs.lemmas.Grind.{get_or-set_at}
+use Rattle.std.proofs.Common.{length-set}
+use Rattle.pm_trees.specs.declared.letters.TheConstants.{LEAF, BUD, OPEN, CLOSE}
+use Rattle.pm_map.specs.Structure.{Structure, IsStructure, CarriesTo}
+use Rattle.pm_map.specs.Rotation.{RotationSystem, structure_of, twin}
+use Rattle.pm_map.specs.FaceDistance.{AreFaceLevels}
+use Rattle.pm_open.specs.declared.walking.Fate.{Fate}
+use Rattle.pm_open.specs.declared.walking.Fate.TheVariants.{Unmet, Cut, Kept}
+use Rattle.pm_open.specs.declared.walking.Step.{Step}
+use Rattle.pm_open.specs.Passing.{IsPassed, cuts, keeps, meets_cut, meets_kept}
+use Rattle.pm_open.proofs.Walked.{is_up, first_of, is_cut, across, letter_of}
+use Rattle.pm_open.proofs.EdgeKinds.{first_is_twin, first_is_own, cut_twin, cut_is_up, is_up_yes, is_up_no, across_cut, across_kept}
+use Rattle.pm_open.proofs.PlaceKinds.{letter_of_bud, letter_of_leaf, letter_of_open, letter_of_close}
+use Rattle.pm_open.proofs.Walks.{IsWalked}
+
+-- what is done with an edge where the walk meets it first
+abbrev pub settled : Bool → Fate
+settled true = Cut
+settled false = Kept
+
+-- the darts of an edge have one half
+pub edge_of_twin : (d : ℕ) → twin d / 2 ≡ d / 2
+edge_of_twin d = omega arith
+
+pub one_edge : (d e : ℕ) → d / 2 ≡ e / 2 → (d ≡ e) ⊎ (d ≡ twin e)
+one_edge d e same = elim (cases_eq d e) [
+  | inl one ↦ inl one
+  | inr two ↦ inr (omega arith)
+]
+
+pub edge_inside : (d n size : ℕ) → d < n → 2 * size ≡ n → d / 2 < size
+edge_inside d n size l e = omega arith
+
+-- the dart of an edge that is met first is one of its two, and none is met before it
+first_is : (s : Structure) (d : ℕ) → (first_of s d ≡ d) ⊎ (first_of s d ≡ s.twin d)
+first_is s d = elim (cases_lt (s.twin d) d) [ inl less ↦ inr (first_is_twin s d less) | inr more ↦ inl (first_is_own s d more) ]
+
+first_below : (s : Structure) (d : ℕ) → first_of s d ≤ d
+first_below s d = elim (cases_lt (s.twin d) d) [ inl less ↦ omega (arith, first_is_twin s d less) | inr more ↦ omega (arith, first_is_own s d more) ]
+
+first_below_twin : (s : Structure) (d : ℕ) → first_of s d ≤ s.twin d
+first_below_twin s d = elim (cases_lt (s.twin d) d) [ inl less ↦ omega (arith, first_is_twin s d less) | inr more ↦ omega (arith, first_is_own s d more) ]
+
+-- The walk has passed the darts of the places below this one, and is at the dart of this place: edges that it met are cut
+-- or kept, and others aren't met.
+pub record ArePassed (map : RotationSystem) (level : ℕ → ℕ) (w : IsWalked (structure_of map) level) (place dart : ℕ) (fates : List Fate) : Type 0 where
+  pub here : w.rename dart ≡ place % length map.sigma
+  pub met : (d : ℕ) → d < length map.sigma → first_of w.walked (w.rename d) < place
+      → slice_index_or fates (d / 2) Unmet ≡ settled (is_cut w.walked w.walked_level (w.rename d))
+  pub unmet : (d : ℕ) → d < length map.sigma → place ≤ first_of w.walked (w.rename d) → slice_index_or fates (d / 2) Unmet ≡ Unmet
+
+-- how the walk passes the dart of a place
+pub record IsStep (map : RotationSystem) (level : ℕ → ℕ) (w : IsWalked (structure_of map) level) (place dart : ℕ) (before after : List Fate) (step : Step) : Type 0 where
+  pub edge : (d : ℕ) → d / 2 ≡ dart / 2 → slice_index_or after (d / 2) Unmet ≡ settled (is_cut w.walked w.walked_level place)
+  pub others : (d : ℕ) → d / 2 ≢ dart / 2 → slice_index_or after (d / 2) Unmet ≡ slice_index_or before (d / 2) Unmet
+  pub letter : place ≢ 0 → step.letter ≡ letter_of w.walked w.walked_level place
+  pub next : step.next ≡ slice_index map.sigma (cond (is_cut w.walked w.walked_level place) dart (twin dart))
+
+module _ (map : RotationSystem) (level : ℕ → ℕ) (structure : IsStructure (structure_of map)) (w : IsWalked (structure_of map) level) where
+  -- the place of a dart
+  place_inside : (d : ℕ) → d < length map.sigma → w.rename d < w.walked.darts
+  place_inside d l = subst (λ n. w.rename d < n) w.carries.darts (w.carries.renumbers.stays d l)
+
+  -- the face beyond is further at a dart and at its place
+  up_agrees : (d : ℕ) → d < length map.sigma → is_up w.walked w.walked_level (w.rename d) ≡ is_up (structure_of map) level d
+  up_agrees d l =
+      let beyond : w.walked_level (w.walked.twin (w.rename d)) ≡ level (twin d) = ap w.walked_level (sym (w.carries.twin d l)) ∙ w.same_level (twin d) (structure.twin_stays d l) in
+      let here : w.walked_level (w.rename d) ≡ level d = w.same_level d l in
+      rw (beyond, here) refl
+
+  -- an edge that isn't met yet is met first at this place, and another one was met at the place of the twin
+  module _ (place dart : ℕ) (fates : List Fate) (l : place < length map.sigma) (inside : dart < length map.sigma) (passed : ArePassed map level w place dart fates) where
+    at : w.rename dart ≡ place
+    at = passed.here ∙ mod-eq_of_lt l
+
+    walked_inside : place < w.walked.darts
+    walked_inside = omega (arith, w.carries.darts)
+
+    twin_of_place : w.walked.twin place ≡ w.rename (twin dart)
+    twin_of_place = ap w.walked.twin (sym at) ∙ sym (w.carries.twin dart inside)
+
+    first_here : slice_index_or fates (dart / 2) Unmet ≡ Unmet → place < w.walked.twin place
+    first_here unmet = elim (cases_lt (w.walked.twin place) place) [
+      | inl less ↦
+          let first : first_of w.walked (w.rename dart) < place = omega (arith, ap (first_of w.walked) at, first_is_twin w.walked place less) in
+          absurd (settled_differs (is_cut w.walked w.walked_level (w.rename dart)) (sym (passed.met dart inside first) ∙ unmet))
+      | inr more ↦ omega (arith, w.structure.twin_other place walked_inside)
+    ] where
+      settled_differs : (b : Bool) → settled b ≡ Unmet → ⊥
+      settled_differs true e = cc
+      settled_differs false e = cc
+
+    cut_here : place < w.walked.twin place → is_cut w.walked w.walked_level place ≡ is_up (structure_of map) level dart
+    cut_here less = cut_is_up w.walked w.walked_level place (omega arith) ∙ ap (is_up w.walked w.walked_level) (sym at) ∙ up_agrees dart inside
+
+    met_before : (b : Bool) → slice_index_or fates (dart / 2) Unmet ≡ settled b → (w.walked.twin place < place) × (is_cut w.walked w.walked_level place ≡ b)
+    met_before b is = elim (cases_lt (w.walked.twin place) place) [
+      | inl less ↦
+          let first : first_of w.walked (w.rename dart) < place = omega (arith, ap (first_of w.walked) at, first_is_twin w.walked place less) in
+          (less, ap (is_cut w.walked w.walked_level) (sym at) ∙ settled_same (is_cut w.walked w.walked_level (w.rename dart)) b (sym (passed.met dart inside first) ∙ is))
+      | inr more ↦
+          let first : place ≤ first_of w.walked (w.rename dart) = omega (arith, ap (first_of w.walked) at, first_is_own w.walked place more) in
+          absurd (settled_differs b (sym is ∙ passed.unmet dart inside first))
+    ] where
+      settled_differs : (b : Bool) → settled b ≡ Unmet → ⊥
+      settled_differs true e = cc
+      settled_differs false e = cc
+
+      settled_same : (a b : Bool) → settled a ≡ settled b → a ≡ b
+      settled_same true true e = refl
+      settled_same false false e = refl
+      settled_same true false e = cc
+      settled_same false true e = cc
+
+    written_here : (fate : Fate) (after : List Fate) → after ≡ set fates (dart / 2) fate → dart / 2 < length fates → slice_index_or after (dart / 2) Unmet ≡ fate
+    written_here fate after written l = ap (λ (xs : List Fate). slice_index_or xs (dart / 2) Unmet) written ∙ get_or-set_at fates (dart / 2) (dart / 2) fate Unmet refl l
+
+    written_else : (fate : Fate) (after : List Fate) → after ≡ set fates (dart / 2) fate → (e : ℕ) → e ≢ dart / 2 → slice_index_or after e Unmet ≡ slice_index_or fates e Unmet
+    written_else fate after written e apart = ap (λ (xs : List Fate). slice_index_or xs e Unmet) written ∙ get_or-set_other fates (dart / 2) e fate Unmet apart
+
+    step_of : (cut : Bool) (after : List Fate) (step : Step) → is_cut w.walked w.walked_level place ≡ cut → slice_index_or after (dart / 2) Unmet ≡ settled cut
+        → ((e : ℕ) → e ≢ dart / 2 → slice_index_or after e Unmet ≡ slice_index_or fates e Unmet) → (place ≢ 0 → step.letter ≡ letter_of w.walked w.walked_level place)
+        → step.next ≡ slice_index map.sigma (cond cut dart (twin dart)) → IsStep map level w place dart fates after step
+    step_of cut after step is edge others letter next = record {
+      edge = λ d same. ap (λ (e : ℕ). slice_index_or after e Unmet) same ∙ edge ∙ ap settled (sym is);
+      others = λ d apart. others (d / 2) apart;
+      letter = letter;
+      next = next ∙ ap (λ (b : Bool). slice_index map.sigma (cond b dart (twin dart))) (sym is);
+    }
+
+    -- what it does at the dart of this place
+    pub stepped : (distances : List ℕ) (after : List Fate) (step : Step) → ((d : ℕ) → level d ≡ slice_index distances d) → AreFaceLevels (structure_of map) level → 2 * length fates ≡ length map.sigma
+        → IsPassed map distances dart fates after step → IsStep map level w place dart fates after step
+    stepped distances after step is_level levels size (cuts unmet up written letter next) =
+        let less : place < w.walked.twin place = first_here unmet in
+        let cut : is_cut w.walked w.walked_level place ≡ true =
+        cut_here less ∙ is_up_yes (structure_of map) level dart (omega (arith, up, is_level dart, is_level (twin dart), levels.across dart inside)) in
+        step_of true after step cut (written_here Cut after written (edge_inside dart (length map.sigma) (length fates) inside size)) (written_else Cut after written)
+        (λ some. letter ∙ sym (letter_of_bud w.walked w.walked_level place some cut less)) next
+    stepped distances after step is_level levels size (keeps unmet level_or_down written letter next) =
+        let less : place < w.walked.twin place = first_here unmet in
+        let kept : is_cut w.walked w.walked_level place ≡ false =
+        cut_here less ∙ is_up_no (structure_of map) level dart (omega (arith, level_or_down, is_level dart, is_level (twin dart))) in
+        step_of false after step kept (written_here Kept after written (edge_inside dart (length map.sigma) (length fates) inside size)) (written_else Kept after written)
+        (λ some. letter ∙ sym (letter_of_open w.walked w.walked_level place some kept less)) next
+    stepped distances after step is_level levels size (meets_cut was same letter next) =
+        let met = met_before true was in
+        step_of true after step met.1 (ap (λ (xs : List Fate). slice_index_or xs (dart / 2) Unmet) same ∙ was) (λ e _. ap (λ (xs : List Fate). slice_index_or xs e Unmet) same)
+        (λ some. letter ∙ sym (letter_of_leaf w.walked w.walked_level place some met.1 met.0)) next
+    stepped distances after step is_level levels size (meets_kept was same letter next) =
+        let met = met_before false was in
+        step_of false after step met.1 (ap (λ (xs : List Fate). slice_index_or xs (dart / 2) Unmet) same ∙ was) (λ e _. ap (λ (xs : List Fate). slice_index_or xs e Unmet) same)
+        (λ some. letter ∙ sym (letter_of_close w.walked w.walked_level place some met.1 met.0)) next
+
+    pub next_inside : (after : List Fate) (step : Step) → IsStep map level w place dart fates after step → step.next < length map.sigma
+    next_inside after step goes = elim (cases_Bool (is_cut w.walked w.walked_level place)) [
+      | inl cut ↦ subst (λ x. x < length map.sigma) (sym (goes.next ∙ ap (slice_index map.sigma) (cond-true _ dart (twin dart) cut))) (structure.rotation.stays dart inside)
+      | inr kept ↦
+          subst (λ x. x < length map.sigma) (sym (goes.next ∙ ap (slice_index map.sigma) (cond-false _ dart (twin dart) kept)))
+          (structure.rotation.stays (twin dart) (structure.twin_stays dart inside))
+    ]
+
+    -- the walk goes on to the dart of the next place
+    next_place : (after : List Fate) (step : Step) → IsStep map level w place dart fates after step → w.rename step.next ≡ suc place % length map.sigma
+    next_place after step goes =
+        let onward : w.walked.next (across w.walked w.walked_level place) ≡ suc place % length map.sigma =
+        w.in_order.onward place walked_inside ∙ ap (λ (n : ℕ). suc place % n) (sym w.carries.darts) in
+        elim (cases_Bool (is_cut w.walked w.walked_level place)) [
+          | inl cut ↦
+              let to : step.next ≡ slice_index map.sigma dart = goes.next ∙ ap (slice_index map.sigma) (cond-true _ dart (twin dart) cut) in
+              ap w.rename to ∙ w.carries.next dart inside ∙ ap w.walked.next (at ∙ sym (across_cut w.walked w.walked_level place cut)) ∙ onward
+          | inr kept ↦
+              let to : step.next ≡ slice_index map.sigma (twin dart) = goes.next ∙ ap (slice_index map.sigma) (cond-false _ dart (twin dart) kept) in
+              ap w.rename to ∙ w.carries.next (twin dart) (structure.twin_stays dart inside)
+              ∙ ap w.walked.next (sym twin_of_place ∙ sym (across_kept w.walked w.walked_level place kept)) ∙ onward
+        ]
+
+    -- on the edge of this place the dart that is met first is met by now
+    edge_met : (d : ℕ) → d / 2 ≡ dart / 2 → (first_of w.walked (w.rename d) ≤ place) × (is_cut w.walked w.walked_level (w.rename d) ≡ is_cut w.walked w.walked_level place)
+    edge_met d same = elim (one_edge d dart same) [
+      | inl one ↦
+          let there : w.rename d ≡ place = ap w.rename one ∙ at in
+          (omega (arith, ap (first_of w.walked) there, first_below w.walked place), ap (is_cut w.walked w.walked_level) there)
+      | inr other ↦
+          let there : w.rename d ≡ w.walked.twin place = ap w.rename other ∙ sym twin_of_place in (
+            omega (arith, ap (first_of w.walked) there, first_below_twin w.walked (w.walked.twin place), w.structure.twin_back place walked_inside),
+            ap (is_cut w.walked w.walked_level) there ∙ cut_twin w.walked w.walked_level place w.structure walked_inside,
+          )
+    ]
+
+    -- on the other edges it isn't met at this place
+    other_edge : (d : ℕ) → d < length map.sigma → d / 2 ≢ dart / 2 → first_of w.walked (w.rename d) ≢ place
+    other_edge d l apart e = elim (first_is w.walked (w.rename d)) [
+      | inl own ↦
+          let one : d ≡ dart = w.carries.renumbers.injective d dart l inside (sym own ∙ e ∙ sym at) in
+          apart (ap (λ (x : ℕ). x / 2) one)
+      | inr there ↦
+          let one : twin d ≡ dart = w.carries.renumbers.injective (twin d) dart (structure.twin_stays d l) inside (w.carries.twin d l ∙ sym there ∙ e ∙ sym at) in
+          apart (sym (edge_of_twin d) ∙ ap (λ (x : ℕ). x / 2) one)
+    ]
+
+    pub passed_more : (after : List Fate) (step : Step) → IsStep map level w place dart fates after step → ArePassed map level w (suc place) step.next after
+    passed_more after step goes = record {
+      here = next_place after step goes;
+      met = λ d l before. elim (cases_eq (d / 2) (dart / 2)) [
+        | inl same ↦ goes.edge d same ∙ ap settled (sym (edge_met d same).1)
+        | inr apart ↦
+            let other = other_edge d l apart in
+            goes.others d apart ∙ passed.met d l (omega (arith, before, other))
+      ];
+      unmet = λ d l beyond. elim (cases_eq (d / 2) (dart / 2)) [
+        | inl same ↦ absurd (omega (arith, beyond, (edge_met d same).0))
+        | inr apart ↦ goes.others d apart ∙ passed.unmet d l (omega (arith, beyond))
+      ];
+    }
