@@ -8,3 +8,6 @@ mod walking;
 
 pub use laws::{each_map_opens_once, levels_are_face_distances, openings_keep_degrees};
 pub use opening::{OpenRefusal, open_map};
+
+#[cfg(test)]
+mod opening_tests;
