@@ -110,7 +110,7 @@ WalksFace-step sigma start dart marks stack marks1 stack1 even turns same w unma
     }
 
 -- the first dart of a face that is marked is marked
-MarksFace-start : (sigma : List ℕ) (start : ℕ) (marks : List Bool) (stack : List ℕ) (marks1 : List Bool) (stack1 : List ℕ)
+pub MarksFace-start : (sigma : List ℕ) (start : ℕ) (marks : List Bool) (stack : List ℕ) (marks1 : List Bool) (stack1 : List ℕ)
     → MarksFace sigma start marks stack marks1 stack1 → IsMarked marks1 start
 MarksFace-start sigma start marks stack marks1 stack1 m =
     elim m.walk.begun [ inl is ↦ is | inr at ↦ subst (λ x. IsMarked marks1 x) (sym at) m.ended ]
@@ -121,7 +121,7 @@ marked_along : (n : ℕ) (f : ℕ → ℕ) (marks : List Bool) → IsPermutation
 marked_along n f marks p whole d h is zero = is
 marked_along n f marks p whole d h is (suc steps) = whole (repeated f steps d) (repeated-inside f n p steps d h) (marked_along n f marks p whole d h is steps)
 
-in_cycle-marked : (n : ℕ) (f : ℕ → ℕ) (marks : List Bool) → IsPermutationBelow n f → ((d : ℕ) → d < n → IsMarked marks d → IsMarked marks (f d))
+pub in_cycle-marked : (n : ℕ) (f : ℕ → ℕ) (marks : List Bool) → IsPermutationBelow n f → ((d : ℕ) → d < n → IsMarked marks d → IsMarked marks (f d))
     → (d e : ℕ) → d < n → IsMarked marks d → IsInCycle f d e → IsMarked marks e
 in_cycle-marked n f marks p whole d e h is c = subst (λ x. IsMarked marks x) c.leads (marked_along n f marks p whole d h is c.steps)
 

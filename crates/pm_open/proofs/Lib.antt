@@ -2,6 +2,7 @@ pub mod Cutting
 pub mod EdgeKinds
 pub mod EvenCounts
 pub mod EvenDegrees
+pub mod FaceSearch
 pub mod Folded
 pub mod KeptByOpening
 pub mod KeptEdges

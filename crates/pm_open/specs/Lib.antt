@@ -1,3 +1,4 @@
+pub mod DistanceSearch
 pub mod Distances
 pub mod Laws
 pub mod Opening

@@ -10,4 +10,6 @@ pub use laws::{each_map_opens_once, levels_are_face_distances, openings_keep_deg
 pub use opening::{OpenRefusal, open_map};
 
 #[cfg(test)]
+mod distance_tests;
+#[cfg(test)]
 mod opening_tests;

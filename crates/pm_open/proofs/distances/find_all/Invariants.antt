@@ -1,0 +1,10 @@
+use Rattle.std.proofs.Common.{◌-◌}
+use Rattle.pm_map.specs.Search.{work_left}
+use Rattle.pm_open.specs.DistanceSearch.{IsFinding}
+use Rattle.pm_open.proofs.distances.find_all.Given as goal
+
+abbrev pub invariant-search : goal.invariant-search
+invariant-search l = IsFinding l.map l.found l.distances l.darts.items l.place
+
+abbrev pub decreases-search : goal.decreases-search
+decreases-search l = work_left l.found l.darts.items - l.place
