@@ -1,5 +1,6 @@
 -- Twins among an even number of darts.
-use Rattle.std.proofs.Common.{◌≡◌, ℕ, ◌%◌, ◌<◌, List, length, arith}
+use Rattle.std.proofs.Common.{◌≡◌, ℕ, ◌/◌, ◌%◌, ◌<◌, ◌⊎◌, inl, inr, List, length, arith}
+use Rattle.std.proofs.lemmas.Bool.{cases_eq}
 use Rattle.pm_perm.specs.Permutation.{IsPermutationList}
 use Rattle.pm_map.specs.Structure.{IsStructure}
 use Rattle.pm_map.specs.Rotation.{structure_of, twin}
@@ -12,6 +13,13 @@ twin_back d = omega arith
 
 pub twin_other : (d : ℕ) → twin d ≡ d → ⊥
 twin_other d e = omega arith
+
+-- the darts of an edge have one half, the number of the edge
+pub edge_of_twin : (d : ℕ) → twin d / 2 ≡ d / 2
+edge_of_twin d = omega arith
+
+pub one_edge : (d e : ℕ) → d / 2 ≡ e / 2 → (d ≡ e) ⊎ (d ≡ twin e)
+one_edge d e same = elim (cases_eq d e) [ inl one ↦ inl one | inr two ↦ inr (omega arith) ]
 
 -- a rotation of an even number of darts, with a root among them, makes a structure
 pub structure_of_parts : (sigma : List ℕ) (root : ℕ) → length sigma % 2 ≡ 0 → IsPermutationList sigma → (0 < length sigma → root < length sigma)

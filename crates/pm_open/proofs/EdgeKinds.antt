@@ -1,6 +1,6 @@
 -- The edges by kind: which dart is met first, and whether the edge is cut.
 use Rattle.std.proofs.Common.{◌≡◌, ℕ, suc, ◌<◌, ◌≤◌, ◌⊎◌, inl, inr, Bool, true, false, cond, sym, ap, ◌∙◌, arith}
-use Rattle.std.proofs.lemmas.Bool.{cases_order, cond-true, cond-false, lt-ltb, le-ltb, eq-eqb, ne_eqb}
+use Rattle.std.proofs.lemmas.Bool.{cases_lt, cases_order, cond-true, cond-false, lt-ltb, le-ltb, eq-eqb, ne_eqb}
 use Rattle.pm_map.specs.Structure.{Structure, IsStructure}
 use Rattle.pm_open.proofs.Walked.{is_up, first_of, is_cut, across}
 use Rattle.pm_open.proofs.Opened.{partner}
@@ -15,6 +15,15 @@ first_is_twin s d l = ap (λ (b : Bool). cond b (s.twin d) d) (lt-ltb (s.twin d)
 
 pub first_is_own : (s : Structure) (d : ℕ) → d ≤ s.twin d → first_of s d ≡ d
 first_is_own s d l = ap (λ (b : Bool). cond b (s.twin d) d) (le-ltb (s.twin d) d l)
+
+pub first_is : (s : Structure) (d : ℕ) → (first_of s d ≡ d) ⊎ (first_of s d ≡ s.twin d)
+first_is s d = elim (cases_lt (s.twin d) d) [ inl less ↦ inr (first_is_twin s d less) | inr more ↦ inl (first_is_own s d more) ]
+
+pub first_below : (s : Structure) (d : ℕ) → first_of s d ≤ d
+first_below s d = elim (cases_lt (s.twin d) d) [ inl less ↦ omega (arith, first_is_twin s d less) | inr more ↦ omega (arith, first_is_own s d more) ]
+
+pub first_below_twin : (s : Structure) (d : ℕ) → first_of s d ≤ s.twin d
+first_below_twin s d = elim (cases_lt (s.twin d) d) [ inl less ↦ omega (arith, first_is_twin s d less) | inr more ↦ omega (arith, first_is_own s d more) ]
 
 -- both darts of an edge have the same first one
 first_of_twin : (s : Structure) (d : ℕ) → IsStructure s → d < s.darts → first_of s (s.twin d) ≡ first_of s d

@@ -1,22 +1,22 @@
 -- The steps of the walk that opens a map, as the code takes them.
-use Rattle.std.proofs.Common.{◌≡◌, ◌≢◌, ℕ, zero, suc, ◌+◌, ◌-◌, ◌*◌, ◌/◌, ◌%◌, ◌<◌, ◌≤◌, ◌⊎◌, inl, inr, Bool, true, false, cond, List, [], ◌∷◌, ◌++◌, length, get_or, set, refl, sym, ap, ◌∙◌, subst, arith}
+use Rattle.std.proofs.Common.{◌≡◌, ◌≢◌, ℕ, suc, ◌*◌, ◌/◌, ◌%◌, ◌<◌, ◌≤◌, inl, inr, Bool, true, false, cond, List, length, set, refl, sym, ap, ◌∙◌, subst, arith}
 use Rattle.std.proofs.Math.Nat.{mod-eq_of_lt}
 use Rattle.std.specs.Prelude.{slice_index, slice_index_or}
 use Rattle.std.proofs.lemmas.Bool.{cases_Bool, cases_lt, cases_eq, cond-true, cond-false}
 use Rattle.std.proofs.lemmas.List.{get_or-set_other}
 use Rattle.std.proofs.lemmas.Grind.{get_or-set_at}
-use Rattle.std.proofs.Common.{length-set}
-use Rattle.pm_trees.specs.declared.letters.TheConstants.{LEAF, BUD, OPEN, CLOSE}
-use Rattle.pm_map.specs.Structure.{Structure, IsStructure, CarriesTo}
+use Rattle.pm_map.specs.Structure.{IsStructure}
 use Rattle.pm_map.specs.Rotation.{RotationSystem, structure_of, twin}
 use Rattle.pm_map.specs.FaceDistance.{AreFaceLevels}
+use Rattle.pm_map.proofs.TwinLemmas.{one_edge, edge_of_twin}
 use Rattle.pm_open.specs.declared.walking.Fate.{Fate}
 use Rattle.pm_open.specs.declared.walking.Fate.TheVariants.{Unmet, Cut, Kept}
 use Rattle.pm_open.specs.declared.walking.Step.{Step}
 use Rattle.pm_open.specs.Passing.{IsPassed, cuts, keeps, meets_cut, meets_kept}
 use Rattle.pm_open.proofs.Walked.{is_up, first_of, is_cut, across, letter_of}
-use Rattle.pm_open.proofs.EdgeKinds.{first_is_twin, first_is_own, cut_twin, cut_is_up, is_up_yes, is_up_no, across_cut, across_kept}
+use Rattle.pm_open.proofs.EdgeKinds.{first_is_twin, first_is_own, first_is, first_below, first_below_twin, cut_twin, cut_is_up, is_up_yes, is_up_no, across_cut, across_kept}
 use Rattle.pm_open.proofs.PlaceKinds.{letter_of_bud, letter_of_leaf, letter_of_open, letter_of_close}
+use Rattle.pm_open.proofs.UniqueWalk.{up_agrees}
 use Rattle.pm_open.proofs.Walks.{IsWalked}
 
 -- what is done with an edge where the walk meets it first
@@ -24,28 +24,19 @@ abbrev pub settled : Bool → Fate
 settled true = Cut
 settled false = Kept
 
--- the darts of an edge have one half
-pub edge_of_twin : (d : ℕ) → twin d / 2 ≡ d / 2
-edge_of_twin d = omega arith
+settled_differs : (b : Bool) → settled b ≡ Unmet → ⊥
+settled_differs true e = cc
+settled_differs false e = cc
 
-pub one_edge : (d e : ℕ) → d / 2 ≡ e / 2 → (d ≡ e) ⊎ (d ≡ twin e)
-one_edge d e same = elim (cases_eq d e) [
-  | inl one ↦ inl one
-  | inr two ↦ inr (omega arith)
-]
+settled_same : (a b : Bool) → settled a ≡ settled b → a ≡ b
+settled_same true true e = refl
+settled_same false false e = refl
+settled_same true false e = cc
+settled_same false true e = cc
 
-pub edge_inside : (d n size : ℕ) → d < n → 2 * size ≡ n → d / 2 < size
+-- the edge of a dart is one of half as many
+edge_inside : (d n size : ℕ) → d < n → 2 * size ≡ n → d / 2 < size
 edge_inside d n size l e = omega arith
-
--- the dart of an edge that is met first is one of its two, and none is met before it
-first_is : (s : Structure) (d : ℕ) → (first_of s d ≡ d) ⊎ (first_of s d ≡ s.twin d)
-first_is s d = elim (cases_lt (s.twin d) d) [ inl less ↦ inr (first_is_twin s d less) | inr more ↦ inl (first_is_own s d more) ]
-
-first_below : (s : Structure) (d : ℕ) → first_of s d ≤ d
-first_below s d = elim (cases_lt (s.twin d) d) [ inl less ↦ omega (arith, first_is_twin s d less) | inr more ↦ omega (arith, first_is_own s d more) ]
-
-first_below_twin : (s : Structure) (d : ℕ) → first_of s d ≤ s.twin d
-first_below_twin s d = elim (cases_lt (s.twin d) d) [ inl less ↦ omega (arith, first_is_twin s d less) | inr more ↦ omega (arith, first_is_own s d more) ]
 
 -- The walk has passed the darts of the places below this one, and is at the dart of this place: edges that it met are cut
 -- or kept, and others aren't met.
@@ -63,17 +54,6 @@ pub record IsStep (map : RotationSystem) (level : ℕ → ℕ) (w : IsWalked (st
   pub next : step.next ≡ slice_index map.sigma (cond (is_cut w.walked w.walked_level place) dart (twin dart))
 
 module _ (map : RotationSystem) (level : ℕ → ℕ) (structure : IsStructure (structure_of map)) (w : IsWalked (structure_of map) level) where
-  -- the place of a dart
-  place_inside : (d : ℕ) → d < length map.sigma → w.rename d < w.walked.darts
-  place_inside d l = subst (λ n. w.rename d < n) w.carries.darts (w.carries.renumbers.stays d l)
-
-  -- the face beyond is further at a dart and at its place
-  up_agrees : (d : ℕ) → d < length map.sigma → is_up w.walked w.walked_level (w.rename d) ≡ is_up (structure_of map) level d
-  up_agrees d l =
-      let beyond : w.walked_level (w.walked.twin (w.rename d)) ≡ level (twin d) = ap w.walked_level (sym (w.carries.twin d l)) ∙ w.same_level (twin d) (structure.twin_stays d l) in
-      let here : w.walked_level (w.rename d) ≡ level d = w.same_level d l in
-      rw (beyond, here) refl
-
   -- an edge that isn't met yet is met first at this place, and another one was met at the place of the twin
   module _ (place dart : ℕ) (fates : List Fate) (l : place < length map.sigma) (inside : dart < length map.sigma) (passed : ArePassed map level w place dart fates) where
     at : w.rename dart ≡ place
@@ -91,13 +71,12 @@ module _ (map : RotationSystem) (level : ℕ → ℕ) (structure : IsStructure (
           let first : first_of w.walked (w.rename dart) < place = omega (arith, ap (first_of w.walked) at, first_is_twin w.walked place less) in
           absurd (settled_differs (is_cut w.walked w.walked_level (w.rename dart)) (sym (passed.met dart inside first) ∙ unmet))
       | inr more ↦ omega (arith, w.structure.twin_other place walked_inside)
-    ] where
-      settled_differs : (b : Bool) → settled b ≡ Unmet → ⊥
-      settled_differs true e = cc
-      settled_differs false e = cc
+    ]
 
     cut_here : place < w.walked.twin place → is_cut w.walked w.walked_level place ≡ is_up (structure_of map) level dart
-    cut_here less = cut_is_up w.walked w.walked_level place (omega arith) ∙ ap (is_up w.walked w.walked_level) (sym at) ∙ up_agrees dart inside
+    cut_here less =
+        cut_is_up w.walked w.walked_level place (omega arith) ∙ ap (is_up w.walked w.walked_level) (sym at)
+        ∙ up_agrees (structure_of map) w.walked level w.walked_level w.rename structure w.carries w.same_level dart inside
 
     met_before : (b : Bool) → slice_index_or fates (dart / 2) Unmet ≡ settled b → (w.walked.twin place < place) × (is_cut w.walked w.walked_level place ≡ b)
     met_before b is = elim (cases_lt (w.walked.twin place) place) [
@@ -107,16 +86,7 @@ module _ (map : RotationSystem) (level : ℕ → ℕ) (structure : IsStructure (
       | inr more ↦
           let first : place ≤ first_of w.walked (w.rename dart) = omega (arith, ap (first_of w.walked) at, first_is_own w.walked place more) in
           absurd (settled_differs b (sym is ∙ passed.unmet dart inside first))
-    ] where
-      settled_differs : (b : Bool) → settled b ≡ Unmet → ⊥
-      settled_differs true e = cc
-      settled_differs false e = cc
-
-      settled_same : (a b : Bool) → settled a ≡ settled b → a ≡ b
-      settled_same true true e = refl
-      settled_same false false e = refl
-      settled_same true false e = cc
-      settled_same false true e = cc
+    ]
 
     written_here : (fate : Fate) (after : List Fate) → after ≡ set fates (dart / 2) fate → dart / 2 < length fates → slice_index_or after (dart / 2) Unmet ≡ fate
     written_here fate after written l = ap (λ (xs : List Fate). slice_index_or xs (dart / 2) Unmet) written ∙ get_or-set_at fates (dart / 2) (dart / 2) fate Unmet refl l

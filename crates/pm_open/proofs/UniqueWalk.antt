@@ -38,7 +38,8 @@ chosen_below true x y n l m = l
 chosen_below false x y n l m = m
 
 module _ (s t : Structure) (level t_level rename : ℕ → ℕ) (structure : IsStructure s) (carries : CarriesTo rename s t) (same : (d : ℕ) → d < s.darts → t_level (rename d) ≡ level d) where
-  up_agrees : (d : ℕ) → d < s.darts → is_up t t_level (rename d) ≡ is_up s level d
+  -- the face beyond is further at a dart and at its number
+  pub up_agrees : (d : ℕ) → d < s.darts → is_up t t_level (rename d) ≡ is_up s level d
   up_agrees d l =
       let beyond : t_level (t.twin (rename d)) ≡ level (s.twin d) = ap t_level (sym (carries.twin d l)) ∙ same (s.twin d) (structure.twin_stays d l) in
       ap (λ (x : ℕ). eqb x (suc (t_level (rename d)))) beyond ∙ ap (λ (x : ℕ). eqb (level (s.twin d)) (suc x)) (same d l)

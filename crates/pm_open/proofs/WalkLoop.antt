@@ -1,5 +1,5 @@
 -- The walk that opens a map and the word that is read along it, place by place.
-use Rattle.std.proofs.Common.{◌≡◌, ◌≢◌, ℕ, zero, suc, ◌+◌, ◌*◌, ◌/◌, ◌%◌, ◌<◌, inl, inr, List, [], ◌∷◌, ◌++◌, length, get_or, replicate, sym, ap, ◌∙◌, subst, arith, refl, length-append, length-set}
+use Rattle.std.proofs.Common.{◌≡◌, ◌≢◌, ℕ, zero, suc, ◌+◌, ◌*◌, ◌/◌, ◌<◌, inl, inr, List, [], ◌∷◌, ◌++◌, length, get_or, replicate, sym, ap, ◌∙◌, subst, arith, refl, length-append, length-set}
 use Rattle.std.specs.Prelude.{slice_index, slice_index_or}
 use Rattle.std.proofs.lemmas.Bool.{cases_eq, cases_lt}
 use Rattle.std.proofs.lemmas.List.{get_or_append_left, get_or-replicate, get_or_past, length-replicate}
@@ -9,7 +9,6 @@ use Rattle.pm_limits.specs.declared.TheConstants.{MAX_DEGREE}
 use Rattle.pm_trees.specs.Word.{contour}
 use Rattle.pm_map.specs.declared.admitted.Degrees.TheVariants.{EvenUpTo}
 use Rattle.pm_map.specs.ClassRules.{AllAdmitted}
-use Rattle.pm_map.specs.Structure.{Structure, IsStructure}
 use Rattle.pm_map.specs.Rotation.{RotationSystem, IsRootedMap, structure_of}
 use Rattle.pm_map.specs.FaceDistance.{AreFaceLevels}
 use Rattle.pm_map.proofs.DistanceLemmas.{levels_are_distances}
@@ -19,7 +18,7 @@ use Rattle.pm_open.specs.declared.walking.Step.{Step}
 use Rattle.pm_open.specs.Distances.{AreFaceDistances}
 use Rattle.pm_open.specs.Opening.{IsOpening}
 use Rattle.pm_open.specs.Passing.{IsPassed, cuts, keeps, meets_cut, meets_kept}
-use Rattle.pm_open.proofs.Walked.{letter_of, IsSpelled}
+use Rattle.pm_open.proofs.Walked.{letter_of}
 use Rattle.pm_open.proofs.PassedDarts.{ArePassed, IsStep, stepped, next_inside, passed_more}
 use Rattle.pm_open.proofs.SomeOpening.{opening_of_walk, even_degrees}
 use Rattle.pm_open.proofs.Walks.{IsWalked, each_map_is_walked}

@@ -1,5 +1,5 @@
 -- How the walk that opens a map passes a dart.
-use Rattle.std.specs.Prelude.{◌≡◌, ℕ, ◌/◌, ◌<◌, ◌≤◌, List, length, slice_index, slice_index_or, slice_set}
+use Rattle.std.specs.Prelude.{◌≡◌, ℕ, ◌/◌, ◌<◌, ◌≤◌, List, slice_index, slice_index_or, slice_set}
 use Rattle.pm_trees.specs.declared.letters.TheConstants.{LEAF, BUD, OPEN, CLOSE}
 use Rattle.pm_map.specs.Rotation.{RotationSystem, twin}
 use Rattle.pm_open.specs.declared.walking.Fate.{Fate}

@@ -1,6 +1,5 @@
-use Rattle.std.proofs.Common.{◌≡◌, ℕ, ◌<◌, ◌≤◌, ◌*◌, ◌/◌, ◌++◌, List, length, take, drop, replicate, refl, sym, ap, ◌∙◌, subst, arith}
+use Rattle.std.proofs.Common.{◌≡◌, ℕ, ◌/◌, ◌++◌, List, length, take, drop, replicate, sym, ap, ◌∙◌, subst, arith}
 use Rattle.std.proofs.Math.Seq.{take-append_seam}
-use Rattle.std.specs.Prelude.{slice_index_or}
 use Rattle.pm_open.specs.declared.walking.Fate.{Fate}
 use Rattle.pm_open.specs.declared.walking.Fate.TheVariants.{Unmet}
 use Rattle.pm_open.specs.Passing.{IsPassed}
