@@ -355,7 +355,3 @@ IsFinding-all map marks distances darts place structure connected i ends =
 pub IsFinding-few : (map : RotationSystem) (marks : List Bool) (distances darts : List ℕ) (place : ℕ) → IsFinding map marks distances darts place → place < length darts
     → get_or distances (get_or darts place 0) 0 < 2 * length map.sigma
 IsFinding-few map marks distances darts place i within = omega (arith, i.rising.few place within, i.work)
-
--- where there is no dart, there is nothing to find
-pub AreFaceDistances-none : (map : RotationSystem) (distances : List ℕ) → length map.sigma ≡ 0 → length distances ≡ 0 → AreFaceDistances map distances
-AreFaceDistances-none map distances none empty = record { as_long = empty ∙ sym none; each = λ d h. absurd (omega (arith, none, h)) }
