@@ -1,11 +1,11 @@
 -- Broken lines of map files, from those of what begins with a map text and those of what stands after it.
-use Rattle.std.proofs.Common.{◌≡◌, ℕ, ◌+◌, ◌-◌, ◌*◌, ◌<◌, refl, get_or, List, [], ◌∷◌, ◌++◌, length, sym, ap, ◌∙◌, subst, inl, inr, arith, append_assoc, length-append}
+use Rattle.std.proofs.Common.{◌≡◌, ℕ, ◌+◌, ◌-◌, ◌*◌, ◌<◌, refl, get_or, List, [], ◌∷◌, ◌++◌, length, sym, ap, ◌∙◌, subst, ◌⊎◌, inl, inr, arith, append_assoc, length-append}
 use Rattle.std.specs.Prelude.{All, codes}
 use Rattle.std.proofs.lemmas.Bool.{cases_lt}
 use Rattle.std.proofs.lemmas.List.{append-nil, append_cancel_left}
 use Rattle.std.proofs.lemmas.List.Elements.{All-head, All-tail}
 use Rattle.pm_text.specs.Broken.{newline, lines, first_lines, IsBrokenLine}
-use Rattle.pm_text.proofs.LineLemmas.{IsWholeLines, no_whole_lines, one_whole_line, first_lines-whole, first_lines-past, first_lines-fewer, begins_with_whole_lines}
+use Rattle.pm_text.proofs.LineLemmas.{HasNoNewline-nil, IsWholeLines, no_whole_lines, one_whole_line, first_lines-whole, first_lines-past, first_lines-fewer, begins_with_whole_lines, is_unfinished}
 use Rattle.pm_mapfile.specs.MapText.{dart_words, vertex_line, vertex_lines, map_line}
 use Rattle.pm_mapfile.specs.MapFile.{MapLines, IsVertexLine, AreMapLines, lines_text}
 use Rattle.pm_mapfile.proofs.NumberLines.{numbers_are_unique}
@@ -39,6 +39,47 @@ broken_in_narrower narrow wide bytes line within fronts b = record {
           is_valid = f.alone;
           same = ap (first_lines fewer) (sym (append-nil f.front)) ∙ first_lines-whole f.count f.front [] f.rest fewer f.whole short ∙ sym same;
         }
+      ];
+}
+
+-- bytes that go on like whole lines, and end where these end, are these
+ends_alike : (count : ℕ) (file bytes : List ℕ) → IsWholeLines count file → first_lines (count + 1) bytes ≡ first_lines (count + 1) file → bytes ≡ file
+ends_alike count file bytes whole same =
+    let unended : first_lines (count + 1) bytes ≡ first_lines (count + 1) (file ++ []) = same ∙ ap (first_lines (count + 1)) (sym (append-nil file)) in
+    let goes_on = begins_with_whole_lines count file [] bytes whole (first_lines-fewer count (count + 1) bytes (file ++ []) (omega arith) unended) in
+    let there = first_lines-past count 1 file goes_on.tail whole in
+    let here = first_lines-past count 1 file [] whole in
+    let pieces : whole.pieces ++ first_lines 1 goes_on.tail ≡ whole.pieces ++ first_lines 1 [] = sym there ∙ ap (first_lines (count + 1)) (sym goes_on.whole) ∙ unended ∙ here in
+    let ended : goes_on.tail ≡ [] = is_unfinished [] goes_on.tail HasNoNewline-nil (append_cancel_left whole.pieces (first_lines 1 goes_on.tail) (first_lines 1 []) pieces) in
+    goes_on.whole ∙ ap (λ l. file ++ l) ended ∙ append-nil file
+
+-- whole lines, and with more after them a valid file
+pub record GoesOnTo (valid : List ℕ → Type 0) (file : List ℕ) : Type 0 where
+  pub count : ℕ
+  pub whole : IsWholeLines count file
+  pub tail : List ℕ
+  pub is_valid : valid (file ++ tail)
+
+-- what breaks the wider form breaks the narrower one at the same line, where its files are of the narrower form or go on to that
+pub broken_in_longer : (narrow wide : List ℕ → Type 0) (bytes : List ℕ) (line : ℕ) → ((file : List ℕ) → narrow file → wide file)
+    → ((file : List ℕ) → wide file → narrow file ⊎ GoesOnTo narrow file) → IsBrokenLine wide bytes line → IsBrokenLine narrow bytes line
+broken_in_longer narrow wide bytes line within longer b = record {
+  broken = λ file valid. b.broken file (within file valid);
+  least = λ fewer less.
+      let g = b.least fewer less in
+      elim (longer g.file g.is_valid) [
+        | inl valid ↦ record { file = g.file; is_valid = valid; same = g.same }
+        | inr on ↦
+            elim (cases_lt on.count fewer) [
+              | inl past ↦
+                  let same = ends_alike on.count g.file bytes on.whole (first_lines-fewer (on.count + 1) fewer bytes g.file (omega arith) (sym g.same)) in
+                  absurd (b.broken g.file g.is_valid (ap (first_lines line) (sym same)))
+              | inr short ↦ record {
+                file = g.file ++ on.tail;
+                is_valid = on.is_valid;
+                same = first_lines-whole on.count g.file on.tail [] fewer on.whole short ∙ ap (first_lines fewer) (append-nil g.file) ∙ g.same;
+              }
+            ]
       ];
 }
 

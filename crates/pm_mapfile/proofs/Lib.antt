@@ -6,6 +6,7 @@ pub mod RoomLemmas
 pub mod FormLemmas
 pub mod FileLemmas
 pub mod ResidueLemmas
+pub mod SampleLemmas
 pub mod AnswerLemmas
 pub mod RotationLemmas
 pub mod LinesLemmas

@@ -18,9 +18,9 @@ use Rattle.pm_map.specs.Parts.{IsMapAnswer}
 use Rattle.pm_map.proofs.StandsLemmas.{cases_Stands}
 use Rattle.pm_map.proofs.UniqueParts.{one_map_answer, least_missing_is_unique}
 use Rattle.pm_mapfile.specs.declared.refusal.FileRefusal.TheVariants.{Memory, Text, Map}
-use Rattle.pm_mapfile.specs.MapFile.{MapLines, lines_text, BeginsWithMapText, IsResidue, IsMapFile}
+use Rattle.pm_mapfile.specs.MapFile.{MapLines, lines_text, BeginsWithMapText, IsResidue, IsMapFile, IsSampleFile}
 use Rattle.pm_mapfile.specs.Vertices.{GoesAround, IsRotationOf}
-use Rattle.pm_mapfile.specs.Answers.{HasTooManyEdges, LeavesOut, TellsRotation, IsLinesAnswer, AnswersText, AnswersFile, HasOneMapTextAnswer, HasOneMapFileAnswer}
+use Rattle.pm_mapfile.specs.Answers.{HasTooManyEdges, LeavesOut, TellsRotation, IsLinesAnswer, AnswersText, AnswersFile, HasOneMapTextAnswer, HasOneMapFileAnswer, HasOneSampleFileAnswer}
 use Rattle.pm_mapfile.proofs.TailLemmas.{cut_alike}
 use Rattle.pm_mapfile.proofs.FormLemmas.{texts_alike}
 
@@ -214,3 +214,30 @@ one_file_answer bytes limit (Err (Map r)) (Err (Map s)) f g n k =
     ap (λ (x : MapRefusal). Err (Map x)) (refusal_of_err r s alike.same)
 one_file_answer bytes limit (Err (Map r)) (Err Memory) f g n k = absurd (k refl)
 one_file_answer bytes limit (Err Memory) second f g n k = absurd (n refl)
+
+is_sample_file : (bytes : List ℕ) (limit : ℕ) (residue : List ℕ) (answer : Result RootedMap MapRefusal) → AnswersFile bytes limit (Some residue) answer → IsSampleFile bytes
+is_sample_file bytes limit residue answer a = record { lines = a.lines; are_lines = a.are_lines; rest = a.rest; after = (residue, a.is_residue); spelled = a.spelled }
+
+numbers_of_some : (one other : List ℕ) → ◌≡◌ {A = Option (List ℕ)} (Some one) (Some other) → one ≡ other
+numbers_of_some one other e = cc
+
+pub one_sample_answer : HasOneSampleFileAnswer
+one_sample_answer bytes limit (Ok a) (Ok b) f g n k =
+    let alike = files_answered_alike bytes limit (Some a.1) (Some b.1) (Ok a.0) (Ok b.0) f g (ok_not_memory a.0) (ok_not_memory b.0) in
+    ap (λ (m : RootedMap). Ok (m, a.1)) (map_of_ok a.0 b.0 alike.same) ∙ ap (λ (p : NumList). Ok (b.0, p)) (numbers_of_some a.1 b.1 alike.residue)
+one_sample_answer bytes limit (Ok a) (Err (Text line)) f g n k = absurd (valid_has_no_broken_line IsSampleFile bytes line (is_sample_file bytes limit a.1 (Ok a.0) f) g)
+one_sample_answer bytes limit (Ok a) (Err (Map r)) f g n k =
+    let alike = files_answered_alike bytes limit (Some a.1) (Some g.0.0) (Ok a.0) (Err r) f g.0.1 (ok_not_memory a.0) (err_not_memory r g.1) in absurd (ok_not_err a.0 r alike.same)
+one_sample_answer bytes limit (Ok a) (Err Memory) f g n k = absurd (k refl)
+one_sample_answer bytes limit (Err (Text line)) (Ok b) f g n k = absurd (valid_has_no_broken_line IsSampleFile bytes line (is_sample_file bytes limit b.1 (Ok b.0) g) f)
+one_sample_answer bytes limit (Err (Text line)) (Err (Text other)) f g n k = ap (λ (l : ℕ). Err (Text l)) (broken_line_is_unique IsSampleFile bytes line other f g)
+one_sample_answer bytes limit (Err (Text line)) (Err (Map r)) f g n k = absurd (valid_has_no_broken_line IsSampleFile bytes line (is_sample_file bytes limit g.0.0 (Err r) g.0.1) f)
+one_sample_answer bytes limit (Err (Text line)) (Err Memory) f g n k = absurd (k refl)
+one_sample_answer bytes limit (Err (Map r)) (Ok b) f g n k =
+    let alike = files_answered_alike bytes limit (Some b.1) (Some f.0.0) (Ok b.0) (Err r) g f.0.1 (ok_not_memory b.0) (err_not_memory r f.1) in absurd (ok_not_err b.0 r alike.same)
+one_sample_answer bytes limit (Err (Map r)) (Err (Text line)) f g n k = absurd (valid_has_no_broken_line IsSampleFile bytes line (is_sample_file bytes limit f.0.0 (Err r) f.0.1) g)
+one_sample_answer bytes limit (Err (Map r)) (Err (Map s)) f g n k =
+    let alike = files_answered_alike bytes limit (Some f.0.0) (Some g.0.0) (Err r) (Err s) f.0.1 g.0.1 (err_not_memory r f.1) (err_not_memory s g.1) in
+    ap (λ (x : MapRefusal). Err (Map x)) (refusal_of_err r s alike.same)
+one_sample_answer bytes limit (Err (Map r)) (Err Memory) f g n k = absurd (k refl)
+one_sample_answer bytes limit (Err Memory) second f g n k = absurd (n refl)

@@ -1,6 +1,6 @@
 -- The text of a map is read again as that map.
 use Rattle.std.proofs.Common.{◌≡◌, ℕ, ◌+◌, ◌*◌, ◌/◌, ◌%◌, ◌<◌, ◌≤◌, ◌^◌, List, [], ◌∷◌, ◌++◌, length, get_or, refl, sym, ap, ◌∙◌, subst, arith, Ok, inl, inr, length-append, get_or-append-add}
-use Rattle.std.specs.Prelude.{All}
+use Rattle.std.specs.Prelude.{All, Some}
 use Rattle.std.specs.List.{concat}
 use Rattle.std.proofs.lemmas.Bool.{cases_lt}
 use Rattle.std.proofs.lemmas.Grind.{get_or_default_zero}
@@ -19,7 +19,7 @@ use Rattle.pm_mapfile.specs.MapText.{IsMapText}
 use Rattle.pm_mapfile.specs.MapFile.{MapLines, IsVertexLine, AreMapLines}
 use Rattle.pm_mapfile.specs.Vertices.{GoesAround}
 use Rattle.pm_mapfile.specs.Answers.{TellsRotation}
-use Rattle.pm_mapfile.specs.ReadAgain.{MapTextIsReadAgain, MapFileIsReadAgain}
+use Rattle.pm_mapfile.specs.ReadAgain.{MapTextIsReadAgain, MapFileIsReadAgain, SampleFileIsReadAgain}
 use Rattle.pm_mapfile.proofs.PrintLemmas.{AreVertices, none, some, AreVertices-list}
 
 -- the darts of the vertices are those of the lines
@@ -147,3 +147,6 @@ map_file_is_read_again m limit text rest residue rooted few is after = record {
   spelled = ap (λ l. l ++ rest) is.is_text;
   answered = lines_answered m limit text rooted few is;
 }
+
+pub sample_file_is_read_again : SampleFileIsReadAgain
+sample_file_is_read_again m limit text rest residue rooted few is after = map_file_is_read_again m limit text rest (Some residue) rooted few is after

@@ -13,7 +13,7 @@ use Rattle.pm_text.proofs.ReaderLemmas.{broken_at_line, broken_at_end}
 use Rattle.pm_lists.specs.ListLine.{list_line}
 use Rattle.pm_mapfile.proofs.NumberLines.{list_line_tagged}
 use Rattle.pm_mapfile.specs.MapText.{dart_words}
-use Rattle.pm_mapfile.specs.MapFile.{MapLines, lines_text, IsNumbersLine, IsMapFile, IsAfterMap, IsResidue, IsReadMap}
+use Rattle.pm_mapfile.specs.MapFile.{MapLines, lines_text, IsNumbersLine, IsTextBefore, IsAfterMap, IsResidue, IsReadMap}
 use Rattle.pm_mapfile.proofs.NumberLines.{Fits64, dart_words_no_newline}
 use Rattle.pm_mapfile.proofs.TailLemmas.{cut_alike, has_newline}
 use Rattle.pm_mapfile.proofs.FormLemmas.{broken_past_front, whole_map_text, after_alike}
@@ -44,19 +44,19 @@ no_line [] r e = cc
 no_line (x ∷ a) r e = cc
 
 -- what stands there and begins with a line is that residue line, and nothing more
-pub record IsResidueLine (text more : List ℕ) : Type 0 where
+pub record IsWholeResidue (text more : List ℕ) : Type 0 where
   pub numbers : List ℕ
   pub line : IsNumbersLine (codes "residue") text numbers
   pub ends : more ≡ []
 
-residue_line_of : (text more : List ℕ) (residue : Option (List ℕ)) → HasNoNewline text → IsResidue residue (text ++ newline ∷ more) → IsResidueLine text more
+residue_line_of : (text more : List ℕ) (residue : Option (List ℕ)) → HasNoNewline text → IsResidue residue (text ++ newline ∷ more) → IsWholeResidue text more
 residue_line_of text more None h is = absurd (no_line text more is.spelled)
 residue_line_of text more (Some numbers) h is =
     let spelled : text ++ newline ∷ more ≡ (codes "residue" ++ dart_words numbers) ++ newline ∷ [] = is.spelled ∙ ap (λ l. l ++ newline ∷ []) (list_line_tagged (codes "residue") numbers) in
     let alike = cut_alike text (codes "residue" ++ dart_words numbers) more [] h (residue_no_newline numbers is.fit.each) spelled in
     record { numbers = numbers; line = record { fit = is.fit.each; spelled = alike.line }; ends = alike.rest }
 
-pub residue_line : (text more : List ℕ) → HasNoNewline text → IsAfterMap (text ++ newline ∷ more) → IsResidueLine text more
+pub residue_line : (text more : List ℕ) → HasNoNewline text → IsAfterMap (text ++ newline ∷ more) → IsWholeResidue text more
 residue_line text more h is = residue_line_of text more is.0 h is.1
 
 has_line : (bytes : List ℕ) (residue : Option (List ℕ)) → HasNoNewline bytes → bytes ≢ [] → IsResidue residue bytes → ⊥
@@ -92,16 +92,16 @@ residue_whole after bytes text numbers new next line none =
     subst (IsResidue (Some numbers)) (sym (next.left ∙ ap (λ rest. text ++ newline ∷ rest) none)) (residue_is text numbers line)
 
 -- what breaks what stands after the map text breaks the file, past the lines of the text
-pub after_broken : (edges root after line other : ℕ) (bytes darts sizes : List ℕ) → IsReadMap bytes edges root darts sizes after → 0 < other → IsBrokenLine IsAfterMap (drop after bytes) other
-    → line ≡ length sizes + 2 + other → IsBrokenLine IsMapFile bytes line
-after_broken edges root after line other bytes darts sizes r positive b count =
+pub after_broken : (form : List ℕ → Type 0) (edges root after line other : ℕ) (bytes darts sizes : List ℕ) → IsReadMap bytes edges root darts sizes after → 0 < other → IsBrokenLine form (drop after bytes) other
+    → line ≡ length sizes + 2 + other → IsBrokenLine (IsTextBefore form) bytes line
+after_broken form edges root after line other bytes darts sizes r positive b count =
     let m : MapLines = record { edges = edges; root = root; vertices = r.vertices } in
-    let past = broken_past_front IsMapFile IsAfterMap (length r.vertices + 2) other (lines_text m) (drop after bytes) (whole_map_text m r.are_lines)
-    (λ rest f. subst IsAfterMap (sym (after_alike m f.lines rest f.rest r.are_lines f.are_lines f.spelled)) f.after)
+    let past = broken_past_front (IsTextBefore form) form (length r.vertices + 2) other (lines_text m) (drop after bytes) (whole_map_text m r.are_lines)
+    (λ rest f. subst form (sym (after_alike m f.lines rest f.rest r.are_lines f.are_lines f.spelled)) f.after)
     (λ rest is. record { lines = m; are_lines = r.are_lines; rest = rest; after = is; spelled = refl })
     positive b in
     let sum : length r.vertices + 2 + other ≡ line = omega (arith, count, ap length r.sizes_are, length-map r.vertices length) in
-    subst (λ n. IsBrokenLine IsMapFile bytes n) sum (subst (λ b. IsBrokenLine IsMapFile b (length r.vertices + 2 + other)) (sym (cut_after edges root after bytes darts sizes r)) past)
+    subst (λ n. IsBrokenLine (IsTextBefore form) bytes n) sum (subst (λ b. IsBrokenLine (IsTextBefore form) b (length r.vertices + 2 + other)) (sym (cut_after edges root after bytes darts sizes r)) past)
 
 -- what a test that there are no bytes tells
 length_none : (bytes : List ℕ) → length bytes ≡ 0 → bytes ≡ []

@@ -17,8 +17,9 @@ use Rattle.pm_mapfile.specs.ReadText.{IsReadTextAnswer, IsResidueAnswer}
 use Rattle.pm_mapfile.specs.ReadFile.{IsReadFileAnswer}
 use Rattle.pm_mapfile.specs.Rotation.{turned_lines, CarriesOn, IsRotationAnswer, IsTextAnswer}
 use Rattle.pm_mapfile.specs.Refusals.{refusal_of_text, refusal_of_map}
-use Rattle.pm_mapfile.specs.Answers.{IsLinesAnswer, AnswersText, AnswersFile, IsMapTextAnswer, IsMapFileAnswer}
+use Rattle.pm_mapfile.specs.Answers.{IsLinesAnswer, AnswersText, AnswersFile, IsMapTextAnswer, IsMapFileAnswer, IsSampleFileAnswer}
 use Rattle.pm_mapfile.proofs.FileLemmas.{cut_after}
+use Rattle.pm_mapfile.proofs.SampleLemmas.{sample_broken}
 use Rattle.pm_mapfile.proofs.LinesLemmas.{rotation_of, rotation_is_whole}
 
 -- the rotation of the lines is answered as the lines are
@@ -83,6 +84,10 @@ pub file_refused : (bytes : List ℕ) (limit : ℕ) (refusal : TextRefusal) → 
 file_refused bytes limit MemoryOfText b = b
 file_refused bytes limit (LineOfText line) b = b
 
+pub sample_refused : (bytes : List ℕ) (limit : ℕ) (refusal : TextRefusal) → IsReadFileAnswer bytes (Err refusal) → IsSampleFileAnswer bytes limit (Err (refusal_of_text refusal))
+sample_refused bytes limit MemoryOfText b = b
+sample_refused bytes limit (LineOfText line) b = sample_broken bytes line b
+
 pub text_map_refused : (bytes : List ℕ) (limit after : ℕ) (refusal : MapRefusal) → AnswersText bytes limit after (Err refusal) → IsMapTextAnswer bytes limit (Err (refusal_of_map refusal))
 text_map_refused bytes limit after MemoryOfMap a = tt
 text_map_refused bytes limit after (TooMany edges) a = ((after, a), λ e. cc)
@@ -97,6 +102,14 @@ file_map_refused bytes limit residue (TooMany edges) a = ((residue, a), λ e. cc
 file_map_refused bytes limit residue (NotPermutation dart) a = ((residue, a), λ e. cc)
 file_map_refused bytes limit residue (NotConnected dart) a = ((residue, a), λ e. cc)
 file_map_refused bytes limit residue (Genus euler) a = ((residue, a), λ e. cc)
+
+pub sample_map_refused : (bytes : List ℕ) (limit : ℕ) (residue : List ℕ) (refusal : MapRefusal) → AnswersFile bytes limit (Some residue) (Err refusal)
+    → IsSampleFileAnswer bytes limit (Err (refusal_of_map refusal))
+sample_map_refused bytes limit residue MemoryOfMap a = tt
+sample_map_refused bytes limit residue (TooMany edges) a = ((residue, a), λ e. cc)
+sample_map_refused bytes limit residue (NotPermutation dart) a = ((residue, a), λ e. cc)
+sample_map_refused bytes limit residue (NotConnected dart) a = ((residue, a), λ e. cc)
+sample_map_refused bytes limit residue (Genus euler) a = ((residue, a), λ e. cc)
 
 -- what may follow a map text
 residue_of : (bytes : List ℕ) (residue : Option NumList) → IsResidueAnswer bytes (Ok residue) → IsResidue residue bytes

@@ -1,5 +1,5 @@
 -- What a map text and a map file are answered: the map, or the first rule that is broken. The answers name no code.
-use Rattle.std.specs.Prelude.{◌≡◌, ℕ, ◌<◌, ◌≤◌, List, ◌++◌, Option, Result, Ok, Err, ⊤, length}
+use Rattle.std.specs.Prelude.{◌≡◌, ℕ, ◌<◌, ◌≤◌, List, ◌++◌, Option, Some, Result, Ok, Err, ⊤, length}
 use Rattle.std.specs.List.{concat}
 use Rattle.pm_text.specs.Broken.{IsBrokenLine}
 use Rattle.pm_lists.specs.declared.num_list.NumList.{NumList}
@@ -10,7 +10,7 @@ use Rattle.pm_map.specs.Missing.{IsLeastMissing}
 use Rattle.pm_map.specs.Parts.{IsMapAnswer}
 use Rattle.pm_mapfile.specs.declared.refusal.FileRefusal.{FileRefusal}
 use Rattle.pm_mapfile.specs.declared.refusal.FileRefusal.TheVariants.{Memory, Text, Map}
-use Rattle.pm_mapfile.specs.MapFile.{MapLines, AreMapLines, lines_text, BeginsWithMapText, IsResidue, IsMapFile}
+use Rattle.pm_mapfile.specs.MapFile.{MapLines, AreMapLines, lines_text, BeginsWithMapText, IsResidue, IsMapFile, IsSampleFile}
 use Rattle.pm_mapfile.specs.Vertices.{IsRotationOf}
 
 -- the lines tell more edges than the limit, and so many
@@ -74,6 +74,15 @@ IsMapFileAnswer bytes limit (Err (Map refusal)) =
     ((residue : Option (List ℕ)) × AnswersFile bytes limit residue (Err refusal)) × (refusal ≡ MemoryOfMap → ⊥)
 IsMapFileAnswer bytes limit (Err Memory) = ⊤
 
+-- The answer to bytes that should be a sample file: the map and the numbers of the residue line; or the line at which they
+-- break that form; or the rule that the lines of the map break.
+abbrev pub IsSampleFileAnswer : List ℕ → ℕ → Result (RootedMap × NumList) FileRefusal → Type 0
+IsSampleFileAnswer bytes limit (Ok read) = AnswersFile bytes limit (Some read.1) (Ok read.0)
+IsSampleFileAnswer bytes limit (Err (Text line)) = IsBrokenLine IsSampleFile bytes line
+IsSampleFileAnswer bytes limit (Err (Map refusal)) =
+    ((residue : List ℕ) × AnswersFile bytes limit (Some residue) (Err refusal)) × (refusal ≡ MemoryOfMap → ⊥)
+IsSampleFileAnswer bytes limit (Err Memory) = ⊤
+
 -- Bytes and a limit have one answer, but for want of memory: so each refusal comes exactly where its rule is the first
 -- that is broken.
 abbrev pub HasOneMapTextAnswer : Type 0
@@ -84,4 +93,9 @@ HasOneMapTextAnswer =
 abbrev pub HasOneMapFileAnswer : Type 0
 HasOneMapFileAnswer =
     (bytes : List ℕ) (limit : ℕ) (first second : Result (RootedMap × Option NumList) FileRefusal) → IsMapFileAnswer bytes limit first → IsMapFileAnswer bytes limit second
+    → (first ≡ Err Memory → ⊥) → (second ≡ Err Memory → ⊥) → first ≡ second
+
+abbrev pub HasOneSampleFileAnswer : Type 0
+HasOneSampleFileAnswer =
+    (bytes : List ℕ) (limit : ℕ) (first second : Result (RootedMap × NumList) FileRefusal) → IsSampleFileAnswer bytes limit first → IsSampleFileAnswer bytes limit second
     → (first ≡ Err Memory → ⊥) → (second ≡ Err Memory → ⊥) → first ≡ second

@@ -89,10 +89,22 @@ pub record IsResidue (residue : Option (List ℕ)) (bytes : List ℕ) : Type 0 w
 abbrev pub IsAfterMap : List ℕ → Type 0
 IsAfterMap bytes = (residue : Option (List ℕ)) × IsResidue residue bytes
 
--- a map file: a map text, then at most one residue line, and nothing more
-pub record IsMapFile (bytes : List ℕ) : Type 0 where
+-- one residue line
+abbrev pub IsResidueLine : List ℕ → Type 0
+IsResidueLine bytes = (residue : List ℕ) × IsResidue (Some residue) bytes
+
+-- a map text, then bytes of this form, and nothing more
+pub record IsTextBefore (form : List ℕ → Type 0) (bytes : List ℕ) : Type 0 where
   pub lines : MapLines
   pub are_lines : AreMapLines lines
   pub rest : List ℕ
-  pub after : IsAfterMap rest
+  pub after : form rest
   pub spelled : bytes ≡ lines_text lines ++ rest
+
+-- a map file: a map text, then at most one residue line, and nothing more
+abbrev pub IsMapFile : List ℕ → Type 0
+IsMapFile bytes = IsTextBefore IsAfterMap bytes
+
+-- a sample file: a map text, then one residue line, and nothing more
+abbrev pub IsSampleFile : List ℕ → Type 0
+IsSampleFile bytes = IsTextBefore IsResidueLine bytes

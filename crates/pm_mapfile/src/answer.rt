@@ -1,7 +1,7 @@
-//! Reading the text of a map, and a map file.
+//! Reading the text of a map, a map file, and a sample file.
 ghost use Rattle.std.specs.Prelude.{◌≡◌, ◌≤◌, ◌<◌, ◌^◌, length};
 ghost use Rattle.pm_limits.specs.declared.TheConstants.{MAX_EDGES};
-ghost use Rattle.pm_mapfile.specs.Answers.{IsMapTextAnswer, IsMapFileAnswer};
+ghost use Rattle.pm_mapfile.specs.Answers.{IsMapTextAnswer, IsMapFileAnswer, IsSampleFileAnswer};
 ghost use Rattle.pm_mapfile.specs.Rotation.{TellsLines, IsTextAnswer, vertices_of_lines};
 
 use crate::file::{ReadFile, read_map_lines};
@@ -59,6 +59,36 @@ pub fn read_map_file(
     };
     match map_of_text(alloc, &file.text, limit) {
         Ok(map) => Ok((map, file.residue)),
+        Err(refusal) => Err(FileRefusal::of_map(refusal)),
+    }
+}
+
+/// Reads a map file with its residue line: the text of a map of at most `limit` edges, one residue line, and nothing more.
+/// It answers the map and the numbers of the residue line. It takes time and memory linear in the bytes.
+///
+/// # Errors
+///
+/// `Text` exactly where `bytes` is no such file, with the first line that breaks that form; a residue line that is missing
+/// breaks it at the line after `end`. Else `Map`, as [`read_map`] says. `Memory` where memory runs out.
+pub fn read_sample_file(
+    alloc: Global,
+    bytes: &[u8],
+    limit: u32,
+) -> Result<(RootedMap, NumList), FileRefusal>
+    requires limit { limit ≤ MAX_EDGES }
+    requires bytes { length bytes.now < 2 ^ 32 }
+    ensures { IsSampleFileAnswer bytes.now limit result }
+{
+    let ReadFile { text, residue } = match read_map_lines(alloc, bytes) {
+        Ok(file) => file,
+        Err(refusal) => return Err(FileRefusal::of_text(refusal)),
+    };
+    let Some(residue) = residue else {
+        let line = text.sizes.len() as u32 + 3;
+        return Err(FileRefusal::Text { line });
+    };
+    match map_of_text(alloc, &text, limit) {
+        Ok(map) => Ok((map, residue)),
         Err(refusal) => Err(FileRefusal::of_map(refusal)),
     }
 }

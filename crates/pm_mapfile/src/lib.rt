@@ -10,7 +10,7 @@ mod refusal;
 mod rotation;
 mod write;
 
-pub use answer::{read_map, read_map_file};
+pub use answer::{read_map, read_map_file, read_sample_file};
 pub use laws::{map_file_answer_is_unique, printed_map_is_read_again};
 pub use refusal::FileRefusal;
 pub use write::{map_bytes, map_has_one_text, put_map};

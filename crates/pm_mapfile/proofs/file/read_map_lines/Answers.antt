@@ -1,5 +1,6 @@
 use Rattle.std.proofs.Common.{◌≡◌, ◌+◌, length, arith}
 use Rattle.std.proofs.lemmas.List.{take_rest}
+use Rattle.pm_mapfile.specs.MapFile.{IsAfterMap}
 use Rattle.pm_mapfile.proofs.FileLemmas.{text_fits}
 use Rattle.pm_mapfile.proofs.ResidueLemmas.{after_broken}
 use Rattle.pm_mapfile.proofs.AnswerLemmas.{file_refusal}
@@ -22,5 +23,5 @@ overflow_add-result-in-Err-Text c =
 pub returns : goal.returns
 returns c =
     let b = rw (c.in-Err-Text.field-0-is, take_rest c.args.bytes.now c.in-Ok.text.after) at c.in-Err-Text.ensures in
-    after_broken c.in-Ok.text.edges c.in-Ok.text.root c.in-Ok.text.after (c.len.result + 2 + c.in-Err-Text.line) c.in-Err-Text.line c.args.bytes.now c.in-Ok.text.darts.items c.in-Ok.text.sizes.items c.in-Ok.ensures b.1 b.0
+    after_broken IsAfterMap c.in-Ok.text.edges c.in-Ok.text.root c.in-Ok.text.after (c.len.result + 2 + c.in-Err-Text.line) c.in-Err-Text.line c.args.bytes.now c.in-Ok.text.darts.items c.in-Ok.text.sizes.items c.in-Ok.ensures b.1 b.0
     (let count : c.len.result + 2 + c.in-Err-Text.line ≡ length c.in-Ok.text.sizes.items + 2 + c.in-Err-Text.line = omega (arith, c.len.ensures, c.in-Ok.text.sizes.ok.0) in count)
