@@ -1,5 +1,5 @@
 //! Worked texts.
-use crate::{FileRefusal, map_bytes, put_map, read_map, read_map_file};
+use crate::{FileRefusal, map_bytes, put_map, read_map, read_map_file, read_sample_file};
 use pm_canon::same;
 use pm_lists::{NumList, put_list};
 use pm_map::{MapRefusal, RootedMap};
@@ -76,6 +76,19 @@ fn a_file_is_read(rt: HostRuntime) -> Result<(), Fail> {
 }
 
 #[test]
+fn a_sample_file_is_read(rt: HostRuntime) -> Result<(), Fail> {
+    let answer = read_sample_file(rt.alloc(), RENUMBERED, 4);
+    assert!(rt; answer.is_ok());
+    let Ok((map, residue)) = answer else {
+        return Ok(())
+    };
+    assert_eq!(rt; map.root(), 7);
+    assert_eq!(rt; map.sigma(), [2, 3, 6, 5, 1, 4, 7, 0].as_slice());
+    assert_eq!(rt; residue.values(), [0, 0, 1, 0].as_slice());
+    Ok(())
+}
+
+#[test]
 fn a_file_without_a_residue_line(rt: HostRuntime) -> Result<(), Fail> {
     let answer = read_map_file(rt.alloc(), b"map 0 0\nend\n", 0);
     assert!(rt; answer.is_ok());
@@ -124,6 +137,13 @@ fn what_is_printed_is_read_again(rt: HostRuntime) -> Result<(), Fail> {
     assert_eq!(rt; read.sigma(), [2, 0, 3, 1].as_slice());
     let numbers = numbers.ok_or("a residue line")?;
     assert_eq!(rt; numbers.values(), [5, 0].as_slice());
+    let sample = read_sample_file(rt.alloc(), &text, 2);
+    assert!(rt; sample.is_ok());
+    let Ok((read, numbers)) = sample else {
+        return Ok(())
+    };
+    assert_eq!(rt; read.sigma(), [2, 0, 3, 1].as_slice());
+    assert_eq!(rt; numbers.values(), [5, 0].as_slice());
     Ok(())
 }
 
@@ -133,6 +153,17 @@ fn refusal_of_file(alloc: Global, bytes: &[u8], limit: u32) -> Option<FileRefusa
         return Some(FileRefusal::Memory);
     }
     match read_map_file(alloc, bytes, limit) {
+        Ok(_) => None,
+        Err(refusal) => Some(refusal),
+    }
+}
+
+// The same of a sample file.
+fn refusal_of_sample(alloc: Global, bytes: &[u8], limit: u32) -> Option<FileRefusal> {
+    if bytes.len() > 1000 || limit > 1000 {
+        return Some(FileRefusal::Memory);
+    }
+    match read_sample_file(alloc, bytes, limit) {
         Ok(_) => None,
         Err(refusal) => Some(refusal),
     }
@@ -164,6 +195,16 @@ fn every_front_of_a_file(rt: HostRuntime) {
         };
         assert_eq!(rt;
             refusal_of_file(rt.alloc(), &RENUMBERED[..count], 4),
+            refusal
+        );
+        // what ends behind the line `end` misses its residue line
+        let refusal = if count == 32 {
+            Some(FileRefusal::Text { line: 5 })
+        } else {
+            refusal
+        };
+        assert_eq!(rt;
+            refusal_of_sample(rt.alloc(), &RENUMBERED[..count], 4),
             refusal
         );
     }
@@ -207,6 +248,48 @@ fn files_with_a_broken_line_after_the_text(rt: HostRuntime) {
     for (bytes, line) in rows {
         let refusal = Some(FileRefusal::Text { line });
         assert_eq!(rt; refusal_of_file(rt.alloc(), bytes, 1000), refusal);
+        assert_eq!(rt; refusal_of_sample(rt.alloc(), bytes, 1000), refusal);
+    }
+}
+
+#[test]
+fn sample_files_with_a_broken_line(rt: HostRuntime) {
+    let rows: [(&[u8], u32); 6] = [
+        (b"map 0 0\nend\n", 3),
+        (b"map 2 0\nv 0 1 2 3\nend\n", 4),
+        (b"map 2 0\nv 0 1 2 3\nend\nresidue  0\n", 4),
+        (b"map 2 0\nv 0 1 2 3\nend\nresidue 0\nresidue 0\n", 5),
+        (b"map 2 0\nv 0 1 2 3\n", 3),
+        (b"map 2 0\nv 0 2 1 3\nend\n", 4),
+    ];
+    for (bytes, line) in rows {
+        let refusal = Some(FileRefusal::Text { line });
+        assert_eq!(rt; refusal_of_sample(rt.alloc(), bytes, 1000), refusal);
+    }
+}
+
+#[test]
+fn sample_files_of_no_map(rt: HostRuntime) {
+    let rows: [(&[u8], u32, MapRefusal); 3] = [
+        (
+            b"map 2 0\nv 0 2 1 3\nend\nresidue 9 9 9\n",
+            2,
+            MapRefusal::Genus { euler: 0 },
+        ),
+        (
+            b"map 2 0\nv 0 1 2 3\nend\nresidue\n",
+            1,
+            MapRefusal::TooMany { edges: 2 },
+        ),
+        (
+            b"map 2 0\nv 0 1 2 2\nend\nresidue 0\n",
+            2,
+            MapRefusal::NotPermutation { dart: 3 },
+        ),
+    ];
+    for (bytes, limit, rule) in rows {
+        let refusal = Some(FileRefusal::Map(rule));
+        assert_eq!(rt; refusal_of_sample(rt.alloc(), bytes, limit), refusal);
     }
 }
 
