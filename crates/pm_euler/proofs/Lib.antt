@@ -10,6 +10,7 @@ pub mod FreeLeaves
 pub mod ObjectLemmas
 pub mod ObjectSums
 pub mod OneSample
+pub mod OneUnplanting
 pub mod PlaneLaws
 pub mod PlaneSteps
 pub mod PlaneTexts

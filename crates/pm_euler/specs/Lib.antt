@@ -7,3 +7,4 @@ pub mod Planted
 pub mod PlantedAnew
 pub mod Quartic
 pub mod Sampling
+pub mod Unplanted

@@ -1,19 +1,19 @@
 -- Blossoming trees that are replanted.
-use Rattle.std.proofs.Common.{◌≡◌, ℕ, zero, suc, ◌+◌, ◌%◌, ◌<◌, inl, inr, List, [], ◌∷◌, ◌++◌, length, take, drop, slice_index, All, IsTrue, refl, ap, sym, ◌∙◌, subst, arith}
+use Rattle.std.proofs.Common.{◌≡◌, ℕ, zero, suc, ◌+◌, ◌-◌, ◌%◌, ◌<◌, inl, inr, List, [], ◌∷◌, ◌++◌, length, take, drop, slice_index, All, IsTrue, refl, ap, sym, ◌∙◌, subst, arith}
 use Rattle.std.proofs.lemmas.Bool.{cases_lt}
 use Rattle.std.proofs.lemmas.List.{length_push, get_or_push, get_or_append_left}
 use Rattle.std.proofs.lemmas.List.Elements.{All-tail}
 use Rattle.pm_trees.specs.declared.letters.TheConstants.{LEAF, OPEN, CLOSE}
 use Rattle.pm_trees.specs.Word.{contour, is_letter, IsMatched, IsInOrder}
 use Rattle.pm_trees.specs.Leaves.{IsLeafAt}
-use Rattle.pm_trees.specs.Blossoming.{IsBlossoming}
+use Rattle.pm_trees.specs.Blossoming.{IsBlossoming, leaves}
 use Rattle.pm_trees.specs.Replanted.{place_from, IsTurned, IsTurnedLetter, IsReplanted}
-use Rattle.pm_trees.specs.Replanting.{IsAlike, EachLeafIsReplanted, ReplantedIsUnique, ReplantedIsAlike, LeavesAreTurned, ReplantingIsUndone}
+use Rattle.pm_trees.specs.Replanting.{IsAlike, leaf_after, EachLeafIsReplanted, ReplantedIsUnique, ReplantedIsAlike, LeavesAreTurned, ReplantingIsUndone}
 use Rattle.pm_trees.proofs.Tally.{tally, tally_is, tally_no}
 use Rattle.pm_trees.proofs.LeafCounts.{plant_is_first}
 use Rattle.pm_trees.proofs.Bracketed.{bracketing_exists}
 use Rattle.pm_trees.proofs.Dyck.{IsDyck, matched_from_dyck}
-use Rattle.pm_trees.proofs.RingPlaces.{mod_stays, steps_to, steps_under, steps_lead, plain_letter, turned_letters, one_ring, turned_back}
+use Rattle.pm_trees.proofs.RingPlaces.{mod_stays, steps_to, steps_to_is, steps_under, steps_lead, steps_back, plain_letter, turned_letters, one_ring, turned_back}
 use Rattle.pm_trees.proofs.Levels.{inside}
 use Rattle.pm_trees.proofs.Rings.{HasTurned, turn, ring_dyck, bad, none_bad, all_good, of_degree, nodes_weight}
 use Rattle.pm_trees.proofs.LeafTurns.{leaf_within, leaf_exists, one_leaf, turned_number}
@@ -148,6 +148,12 @@ replanting_undone word leaf replanted t r =
       is_start = leaves_turned word leaf replanted t r 0 (steps_to (length (contour word)) r.start 0) (steps_under (length (contour word)) r.start 0 (omega arith)) plant;
       is_turned = turned_back (contour word) b.0 (contour replanted) r.start b.1 (omega arith) r.is_turned;
     }
+
+-- and that number leads back to the number of the leaf
+pub leaf_back : (word other : List ℕ) (leaf : ℕ) → leaves other ≡ leaves word → leaf < leaves word → leaf_after other (leaf_after word leaf 0) 0 ≡ leaf
+leaf_back word other leaf same l =
+    ap (λ (k : ℕ). (0 + (k - leaf_after word leaf 0)) % k) same ∙ sym (steps_to_is (leaves word) (leaf_after word leaf 0) 0)
+    ∙ ap (λ (k : ℕ). steps_to (leaves word) k 0) (sym (steps_to_is (leaves word) leaf 0)) ∙ steps_back (leaves word) leaf l
 
 -- the letters that were met so far
 pub record IsTurnedFront (word : List ℕ) (start : ℕ) (letters : List ℕ) (steps : ℕ) : Type 0 where

@@ -39,6 +39,14 @@ steps_are n start p l m =
     let e : start + p + (n - start) ≡ p + n = omega arith in
     mod-add-mod (start + p) n (n - start) ∙ ap (λ (k : ℕ). k % n) e ∙ add-mod_right p n ∙ mod_stays p n m
 
+-- the steps that lead from a place to 0 lead from their number to the place
+pub steps_back : (n place : ℕ) → place < n → steps_to n (steps_to n place 0) 0 ≡ place
+steps_back n place l =
+    let under : steps_to n place 0 < n = steps_under n place 0 (omega arith) in
+    let e : steps_to n place 0 + place ≡ place + steps_to n place 0 = omega arith in
+    let home : (steps_to n place 0 + place) % n ≡ 0 = ap (λ (k : ℕ). k % n) e ∙ steps_lead n place 0 (omega arith) (omega arith) in
+    ap (steps_to n (steps_to n place 0)) (sym home) ∙ steps_are n (steps_to n place 0) place (omega arith) l
+
 pub flipped : (xs : List ℕ) (p q : ℕ) → AreBrackets xs p q → AreBrackets xs q p
 flipped xs p q h = elim h [ inl a ↦ inr a | inr a ↦ inl a ]
 
