@@ -25,3 +25,4 @@ pub mod RootRows
 pub mod Rows
 pub mod SidePatterns
 pub mod SideTexts
+pub mod SomeUnplanting

@@ -1,7 +1,7 @@
 -- A map and the number of the old plant come from no two trees and free leaves.
 use Rattle.std.proofs.Common.{◌≡◌, ℕ, ◌<◌, List, length, refl, sym, ◌∙◌, ap, subst, arith}
 use Rattle.pm_trees.specs.Word.{contour}
-use Rattle.pm_trees.specs.Blossoming.{IsBlossoming, leaves}
+use Rattle.pm_trees.specs.Blossoming.{IsBlossoming}
 use Rattle.pm_trees.specs.Leaves.{IsLeafAt}
 use Rattle.pm_trees.specs.Replanted.{IsReplanted, place_from}
 use Rattle.pm_trees.specs.Replanting.{leaf_after}
