@@ -1,6 +1,8 @@
 -- The opening of a map, with one of its leaves as the old plant, comes from a tree and one of its free leaves.
-use Rattle.std.proofs.Common.{ℕ, ◌<◌, inl, inr, List, sym, subst, arith}
-use Rattle.pm_trees.specs.Word.{contour}
+use Rattle.std.proofs.Common.{◌≡◌, ℕ, ◌<◌, inl, inr, List, length, take, sym, ◌∙◌, ap, subst, arith}
+use Rattle.pm_limits.specs.declared.TheConstants.{MAX_DEGREE}
+use Rattle.pm_trees.specs.declared.letters.TheConstants.{LEAF}
+use Rattle.pm_trees.specs.Word.{contour, count}
 use Rattle.pm_trees.specs.Blossoming.{IsBlossoming, leaves}
 use Rattle.pm_trees.specs.Leaves.{IsLeafAt}
 use Rattle.pm_trees.specs.Replanted.{IsReplanted}
@@ -13,10 +15,12 @@ use Rattle.pm_match.specs.Pairing.{Pairs, IsPairing}
 use Rattle.pm_match.proofs.Paired.{pairing_exists}
 use Rattle.pm_match.proofs.PairTurns.{free_leaf_balances}
 use Rattle.pm_map.specs.Rotation.{RotationSystem, structure_of, IsRootedMap}
-use Rattle.pm_map.specs.Structure.{IsStructure}
+use Rattle.pm_map.specs.ClassRules.{AllAdmitted}
+use Rattle.pm_map.specs.declared.admitted.Degrees.TheVariants.{EvenUpTo}
 use Rattle.pm_map.specs.Canonical.{IsCanonical, IsCanonicalOf}
 use Rattle.pm_map.proofs.SameMaps.{same_as_itself, same_symmetric, same_transitive}
 use Rattle.pm_open.specs.Opening.{IsOpening}
+use Rattle.pm_open.proofs.SomeOpening.{each_map_opens}
 use Rattle.pm_euler.specs.Closed.{IsCanonicalClosure}
 use Rattle.pm_euler.specs.PlantedAnew.{IsFreeLeaf, IsPlantedAnew}
 use Rattle.pm_euler.specs.Unplanted.{IsUnplanted}
@@ -52,38 +56,26 @@ plant_is_free turned old word place tree balanced r numbered =
     subst (IsFree (contour word)) (one_leaf (contour word) (leaf_after turned old 0) undone.start place undone.is_start numbered)
     ((free_leaf_balances word (leaf_after turned old 0) turned (replanted_alike turned old word tree r).blossoming undone).0 balanced)
 
--- the closure of an opening has the canonical map of the map
-pub opening_closes : (map : RotationSystem) (turned : List ℕ) (canonical : RotationSystem) → IsStructure (structure_of map) → IsOpening map turned → IsCanonicalOf map canonical → IsCanonicalClosure turned canonical
-opening_closes map turned canonical structure is named = record {
-  closure = is.closure;
-  is_closure = is.is_closure;
-  is_canonical = record {
-    is_canonical = named.is_canonical;
-    is_same = same_transitive (structure_of is.closure) (structure_of map) (structure_of canonical) (same_symmetric (structure_of map) (structure_of is.closure) structure is.same) named.is_same;
-  };
-}
-
 -- a tree and a free leaf, from an opening that is replanted at a leaf and the place of its plant from before
-pub unplanted_from : (map : RotationSystem) (turned : List ℕ) (old : ℕ) (word : List ℕ) (free place : ℕ) → IsRootedMap map → IsOpening map turned → old < leaves turned → IsReplanted turned old word
+pub unplanted_from : (map : RotationSystem) (turned : List ℕ) (old : ℕ) (word : List ℕ) (free place : ℕ) → IsOpening map turned → old < leaves turned → IsReplanted turned old word
     → IsLeafAt (contour word) (leaf_after turned old 0) place → IsFreeLeaf (contour word) free place → free < 2 → IsUnplanted map old word free
-unplanted_from map turned old word free place rooted is few r numbered is_free two = record {
+unplanted_from map turned old word free place is few r numbered is_free two = record {
   blossoming = (replanted_alike turned old word is.blossoming r).blossoming;
   few = two;
   turned = turned;
   is_anew = anew_back turned old word free place is.blossoming few r numbered is_free;
   is_opening = is;
-  closes = λ canonical named. opening_closes map turned canonical rooted.structure is named;
 }
 
--- a tree and a free leaf that give the map, with the old plant as the leaf of a number
+-- a tree and a free leaf that give a map, with the old plant as the leaf of a number
 pub record HasUnplanted (map : RotationSystem) (old_plant : ℕ) : Type 0 where
   pub word : List ℕ
   pub free : ℕ
   pub is : IsUnplanted map old_plant word free
 
 -- each leaf of an opening is the old plant of such a tree
-pub opening_unplants : (map : RotationSystem) (turned : List ℕ) (old : ℕ) → IsRootedMap map → IsOpening map turned → old < leaves turned → HasUnplanted map old
-opening_unplants map turned old rooted is few =
+pub opening_unplants : (map : RotationSystem) (turned : List ℕ) (old : ℕ) → IsOpening map turned → old < leaves turned → HasUnplanted map old
+opening_unplants map turned old is few =
     let replanted : (word : List ℕ) × IsReplanted turned old word = each_leaf turned old is.blossoming few in
     let undone : IsReplanted replanted.0 (leaf_after turned old 0) turned = replanting_undone turned old replanted.0 is.blossoming replanted.1 in
     let free = has_number replanted.0 undone.start (replanted_alike turned old replanted.0 is.blossoming replanted.1).blossoming
@@ -91,9 +83,40 @@ opening_unplants map turned old rooted is few =
     record {
       word = replanted.0;
       free = free.free;
-      is = unplanted_from map turned old replanted.0 free.free undone.start rooted is few replanted.1 undone.is_start free.is_free free.few;
+      is = unplanted_from map turned old replanted.0 free.free undone.start is few replanted.1 undone.is_start free.is_free free.few;
     }
 
--- so for a canonical map there is a tree that closes to it
-pub canonical_unplanted : (map : RotationSystem) (old : ℕ) (word : List ℕ) (free : ℕ) → IsCanonical map → (is : IsUnplanted map old word free) → IsCanonicalClosure is.turned map
-canonical_unplanted map old word free canonical is = is.closes map (record { is_canonical = canonical; is_same = same_as_itself (structure_of map) })
+-- so a rooted map with a dart and even degrees has one for each number below the leaves of its opening
+pub anew_exists : (map : RotationSystem) (old : ℕ) → IsRootedMap map → 0 < length map.sigma → AllAdmitted (structure_of map) (EvenUpTo MAX_DEGREE)
+    → ((opening : List ℕ) → IsOpening map opening → old < leaves opening) → HasUnplanted map old
+anew_exists map old rooted some even few =
+    let opening : (word : List ℕ) × IsOpening map word = each_map_opens map rooted some even in
+    opening_unplants map opening.0 old opening.1 (few opening.0 opening.1)
+
+-- and the tree planted anew closes to the canonical map
+pub unplanted_closes : (map canonical : RotationSystem) (old : ℕ) (word : List ℕ) (free : ℕ) → IsRootedMap map → IsCanonicalOf map canonical → (is : IsUnplanted map old word free) → IsCanonicalClosure is.turned canonical
+unplanted_closes map canonical old word free rooted named is = record {
+  closure = is.is_opening.closure;
+  is_closure = is.is_opening.is_closure;
+  is_canonical = record {
+    is_canonical = named.is_canonical;
+    is_same = same_transitive (structure_of is.is_opening.closure) (structure_of map) (structure_of canonical)
+        (same_symmetric (structure_of map) (structure_of is.is_opening.closure) rooted.structure is.is_opening.same) named.is_same;
+  };
+}
+
+-- which is the map itself where it is canonical
+pub canonical_closes : (map : RotationSystem) (old : ℕ) (word : List ℕ) (free : ℕ) → IsRootedMap map → IsCanonical map → (is : IsUnplanted map old word free) → IsCanonicalClosure is.turned map
+canonical_closes map old word free rooted canonical is = unplanted_closes map map old word free rooted (record { is_canonical = canonical; is_same = same_as_itself (structure_of map) }) is
+
+-- which of the free leaves the leaf of a number is, as the list of pairs gives them
+pub number_first : (word : List ℕ) (found : Pairs) (leaf place : ℕ) → IsPairing (contour word) found → leaf ≡ count LEAF (take found.first_free (contour word)) → IsLeafAt (contour word) leaf place → IsFreeLeaf (contour word) 0 place
+number_first word found leaf place pairing same numbered =
+    let here : IsLeafAt (contour word) leaf found.first_free = record { here = pairing.first.leaf; before = sym same } in
+    subst (IsFreeLeaf (contour word) 0) (one_leaf (contour word) leaf found.first_free place here numbered) (first_is_free (contour word) found pairing)
+
+pub number_second : (word : List ℕ) (found : Pairs) (leaf place : ℕ) → IsPairing (contour word) found → (count LEAF (take found.first_free (contour word)) ≡ leaf → ⊥) → IsLeafAt (contour word) leaf place → IsFree (contour word) place → IsFreeLeaf (contour word) 1 place
+number_second word found leaf place pairing other numbered free = elim (pairing.no_third place free) [
+  | inl e ↦ absurd (other (ap (λ (p : ℕ). count LEAF (take p (contour word))) (sym e) ∙ numbered.before))
+  | inr e ↦ subst (IsFreeLeaf (contour word) 1) (sym e) (second_is_free (contour word) found pairing)
+]
