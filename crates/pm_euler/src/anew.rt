@@ -45,7 +45,7 @@ fn free_leaf(alloc: Global, tree: &Tree, free: u64) -> Result<u32, AllocError>
 }
 
 /// How many leaves stand before the place along the contour.
-fn leaves_before(letters: &[u8], place: u32) -> u32
+pub(crate) fn leaves_before(letters: &[u8], place: u32) -> u32
     requires short { length letters.now < 2 ^ 31 }
     requires within { place ≤ length letters.now }
     ensures { result ≡ count leaf (take place (contour letters.now)) }

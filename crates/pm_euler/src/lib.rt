@@ -12,6 +12,7 @@ mod plane_planting;
 mod planting;
 mod quartic;
 mod sample;
+mod unplanting;
 
 pub use eulerian::Eulerian;
 pub use map_class::MapClass;

@@ -1,0 +1,73 @@
+//! From a map back to the tree that was planted anew.
+ghost use Rattle.std.specs.Prelude.{ℕ, ◌<◌, List, length, IfOk};
+ghost use Rattle.pm_limits.specs.declared.TheConstants.{MAX_DEGREE};
+ghost use Rattle.pm_map.specs.ClassRules.{AllAdmitted};
+ghost use Rattle.pm_map.specs.Rotation.{structure_of};
+ghost use Rattle.pm_map.specs.declared.admitted.Degrees.TheVariants.{EvenUpTo};
+ghost use Rattle.pm_match.specs.Pair.{IsFree};
+ghost use Rattle.pm_open.specs.Opening.{IsOpening};
+ghost use Rattle.pm_trees.specs.Blossoming.{leaves};
+ghost use Rattle.pm_trees.specs.Leaves.{IsLeafAt};
+ghost use Rattle.pm_trees.specs.Word.{contour};
+ghost use Rattle.pm_euler.specs.PlantedAnew.{IsFreeLeaf};
+ghost use Rattle.pm_euler.specs.Unplanted.{IsUnplanted};
+
+use crate::anew::leaves_before;
+use pm_map::RootedMap;
+use pm_match::matching;
+use pm_open::{OpenRefusal, open_map};
+use pm_trees::{Tree, replant};
+use std::alloc::{AllocError, Global};
+
+/// A tree, and the number of the free leaf at which it is planted anew.
+#[derive(Drop)]
+pub(crate) struct Unplanted {
+    pub(crate) tree: Tree,
+    pub(crate) free: u64,
+}
+
+/// The tree and the free leaf that give the map, where the old plant is the leaf of this number of the map's opening.
+pub(crate) fn unplant(
+    alloc: Global,
+    map: &RootedMap,
+    old_plant: u32,
+) -> Result<Unplanted, AllocError>
+    requires some { 0 < length map.now.sigma }
+    requires degrees { AllAdmitted (structure_of map.now) (EvenUpTo MAX_DEGREE) }
+    requires leaf { (opening : List ℕ) → IsOpening map.now opening → old_plant < leaves opening }
+    ensures { IfOk result (λ unplanted. IsUnplanted map.now old_plant unplanted.tree unplanted.free) }
+{
+    let opening = opening_of(alloc, map)?;
+    let tree = replant(alloc, &opening, old_plant)?;
+    let plant = (opening.leaves() - old_plant) % opening.leaves();
+    let free = number_of_free(alloc, &tree, plant)?;
+    Ok(Unplanted { tree, free })
+}
+
+/// The opening of a map whose vertices have even degrees within the limit.
+fn opening_of(alloc: Global, map: &RootedMap) -> Result<Tree, AllocError>
+    requires some { 0 < length map.now.sigma }
+    requires degrees { AllAdmitted (structure_of map.now) (EvenUpTo MAX_DEGREE) }
+    ensures { IfOk result (IsOpening map.now) }
+{
+    match open_map(alloc, map) {
+        Ok(opening) => Ok(opening),
+        Err(OpenRefusal::Memory) => Err(AllocError),
+        Err(OpenRefusal::Degree { .. }) => unreachable!(),
+    }
+}
+
+/// Which of the two free leaves the leaf of this number is, which is free.
+fn number_of_free(alloc: Global, tree: &Tree, leaf: u32) -> Result<u64, AllocError>
+    requires { (place : ℕ) → IsLeafAt (contour tree.now) leaf place → IsFree (contour tree.now) place }
+    ensures free { IfOk result (λ free. (place : ℕ) → IsLeafAt (contour tree.now) leaf place → IsFreeLeaf (contour tree.now) free place) }
+    ensures few { IfOk result (λ free. free < 2) }
+{
+    let pairing = matching(alloc, tree)?;
+    let (first, _) = pairing.free();
+    Ok(if leaves_before(tree.letters(), first) == leaf {
+        0
+    } else {
+        1
+    })
+}
