@@ -7,7 +7,6 @@ use Rattle.pm_trees.specs.Word.{contour}
 use Rattle.pm_trees.specs.Blossoming.{IsBlossoming, leaves}
 use Rattle.pm_trees.specs.Degrees.{nodes_of}
 use Rattle.pm_trees.specs.Pairs.{IsProfile, edges_of, pair_at}
-use Rattle.pm_trees.proofs.LeafTurns.{leaf_few}
 use Rattle.pm_trees.proofs.Replants.{replanted_alike}
 use Rattle.pm_match.specs.Pair.{IsBalanced}
 use Rattle.pm_map.specs.Rotation.{RotationSystem, structure_of}
@@ -24,10 +23,10 @@ use Rattle.pm_euler.specs.PlantedAnew.{IsPlantedAnew}
 use Rattle.pm_euler.specs.declared.sample.Sample.{Sample}
 use Rattle.pm_euler.specs.Sampling.{IsSampled, HasOneSample, EachListIsSampled}
 use Rattle.pm_euler.proofs.ClosedAnew.{HasClosure, closed_anew}
-use Rattle.pm_euler.proofs.ClosedMaps.{canonical_closure_is_rooted, one_canonical_closure}
+use Rattle.pm_euler.proofs.ClosedMaps.{canonical_closure_is_rooted}
 use Rattle.pm_euler.proofs.EulerianBounds.{arrangement_long, arrangement_is_valid, rank_is_valid, free_is_valid, eulerian_residue_is_valid}
 use Rattle.pm_euler.proofs.ObjectLemmas.{HasObjects, halves_are, halves_some, halves_few}
-use Rattle.pm_euler.proofs.OneSample.{anew_blossoms, anew_balances, one_anew}
+use Rattle.pm_euler.proofs.OneSample.{anew_balances, closed_anew_once, old_plant_few}
 use Rattle.pm_euler.proofs.PlaneLaws.{plane_planted_blossoming, plane_planted_leaves, plane_planted_nodes, plane_planted_no_odd}
 use Rattle.pm_euler.proofs.PlaneTrees.{plane_planted_exists, plane_planted_unique}
 use Rattle.pm_euler.proofs.Preorders.{HasPreorder, IsPreorder, preorder_exists, preorder_is, one_preorder}
@@ -95,8 +94,7 @@ sampled_class pairs ranks objects word free turned old_plant map is tree has pla
 sampled_old : (pairs : List (ℕ × ℕ)) (ranks objects word : List ℕ) (free : ℕ) (turned : List ℕ) (old_plant : ℕ) → IsProfile pairs → IsBlossoming word → HasObjects pairs objects
     → IsPlantedPlane (halves_of pairs) ranks objects word → IsPlantedAnew word free turned old_plant → old_plant < suc (suc (edges_of pairs) - nodes_of_profile pairs)
 sampled_old pairs ranks objects word free turned old_plant is tree has planted anew =
-    let alike = replanted_alike word anew.leaf turned tree anew.is_replanted in
-    subst (λ (n : ℕ). old_plant < n) (alike.leaves_are ∙ leaves_of_profile pairs ranks objects word is has planted) (leaf_few (contour turned) old_plant anew.now anew.is_old_number)
+    subst (λ (n : ℕ). old_plant < n) (leaves_of_profile pairs ranks objects word is has planted) (old_plant_few word free turned old_plant tree anew)
 
 -- what is known of the tree that choices give
 pub planted_tree : (pairs : List (ℕ × ℕ)) (start : ℕ) (ranks objects word : List ℕ) → IsProfile pairs → IsPreorder pairs start objects → IsPlantedPlane (halves_of pairs) ranks objects word → IsBlossoming word
@@ -143,13 +141,9 @@ one_eulerian_sample pairs is choices map other residue rest x y =
     subst (λ (os : List ℕ). IsPlantedPlane (halves_of pairs) (take (nodes_of_profile pairs) (drop (suc (edges_of pairs)) choices)) os y.word) (sym one.same) y.is_planted in
     let words : y.word ≡ x.word = plane_planted_unique (halves_of pairs) (take (nodes_of_profile pairs) (drop (suc (edges_of pairs)) choices)) x.objects y.word x.word planted x.is_planted in
     let tree = planted_tree pairs x.start (take (nodes_of_profile pairs) (drop (suc (edges_of pairs)) choices)) x.objects x.word is p x.is_planted in
-    let there : IsPlantedAnew x.word (slice_index choices (suc (edges_of pairs) + nodes_of_profile pairs)) y.planted_anew y.old_plant =
-    subst (λ (w : List ℕ). IsPlantedAnew w (slice_index choices (suc (edges_of pairs) + nodes_of_profile pairs)) y.planted_anew y.old_plant) words y.is_anew in
-    let same = one_anew x.word (slice_index choices (suc (edges_of pairs) + nodes_of_profile pairs)) x.planted_anew y.planted_anew x.old_plant y.old_plant tree x.is_anew there in (
-      one_canonical_closure x.planted_anew map other (anew_blossoms x.word (slice_index choices (suc (edges_of pairs) + nodes_of_profile pairs)) x.planted_anew x.old_plant tree x.is_anew)
-          (anew_balances x.word (slice_index choices (suc (edges_of pairs) + nodes_of_profile pairs)) x.planted_anew x.old_plant tree x.is_anew) x.is_closed (subst (λ (w : List ℕ). IsCanonicalClosure w other) same.0 y.is_closed),
-      x.residue_is ∙ residues x.start y.start x.objects y.objects x.old_plant y.old_plant one.starts one.same (sym same.1) ∙ sym y.residue_is,
-    ) where
+    let same = closed_anew_once x.word y.word (slice_index choices (suc (edges_of pairs) + nodes_of_profile pairs)) x.planted_anew y.planted_anew x.old_plant y.old_plant map other tree words
+    x.is_anew y.is_anew x.is_closed y.is_closed in
+    (same.0, x.residue_is ∙ residues x.start y.start x.objects y.objects x.old_plant y.old_plant one.starts one.same same.1 ∙ sym y.residue_is) where
       residues : (s t : ℕ) (os us : List ℕ) (a b : ℕ) → s ≡ t → os ≡ us → a ≡ b → s ∷ (codes_by_degree pairs os ++ a ∷ []) ≡ t ∷ (codes_by_degree pairs us ++ b ∷ [])
       residues s t os us a b e f g =
           ap (λ (n : ℕ). n ∷ (codes_by_degree pairs os ++ a ∷ [])) e ∙ ap (λ (xs : List ℕ). t ∷ (codes_by_degree pairs xs ++ a ∷ [])) f ∙ ap (λ (n : ℕ). t ∷ (codes_by_degree pairs us ++ n ∷ [])) g

@@ -4,18 +4,19 @@ use Rattle.std.specs.Prelude.{slice_index}
 use Rattle.std.proofs.lemmas.Bool.{cases_eq}
 use Rattle.pm_trees.specs.declared.letters.TheConstants.{LEAF}
 use Rattle.pm_trees.specs.Word.{contour, count}
-use Rattle.pm_trees.specs.Blossoming.{IsBlossoming}
+use Rattle.pm_trees.specs.Blossoming.{IsBlossoming, leaves}
 use Rattle.pm_trees.specs.Leaves.{IsLeafAt}
 use Rattle.pm_trees.specs.Replanted.{IsReplanted}
 use Rattle.pm_trees.proofs.Balance.{two_more_leaves}
 use Rattle.pm_trees.proofs.RingPlaces.{steps_to, steps_are}
-use Rattle.pm_trees.proofs.LeafTurns.{one_leaf, leaf_within}
+use Rattle.pm_trees.proofs.LeafTurns.{one_leaf, leaf_few, leaf_within}
 use Rattle.pm_trees.proofs.Replants.{replanted_unique, replanted_alike}
 use Rattle.pm_match.specs.Pair.{IsFree, IsBalanced}
 use Rattle.pm_match.proofs.Paired.{at_most_two_free}
 use Rattle.pm_lehmer.specs.Lehmer.{code_of}
 use Rattle.pm_remy.specs.Tree.{labels_of}
 use Rattle.pm_remy.specs.Growth.{grown}
+use Rattle.pm_map.specs.Rotation.{RotationSystem}
 use Rattle.pm_euler.specs.PlantedAnew.{IsFreeLeaf, IsPlantedAnew, first, second}
 use Rattle.pm_euler.specs.Closed.{IsCanonicalClosure}
 use Rattle.pm_euler.specs.Quartic.{IsQuarticSize, SamplesQuartic}
@@ -55,7 +56,7 @@ same_leaf word free one other a b tree x y =
     sym y.numbered.before ∙ ap (λ (k : ℕ). count LEAF (take k (contour word))) places ∙ x.numbered.before
 
 -- a tree is planted anew in one way
-pub one_anew : (word : List ℕ) (free : ℕ) (one other : List ℕ) (a b : ℕ) → IsBlossoming word → IsPlantedAnew word free one a → IsPlantedAnew word free other b → (other ≡ one) × (b ≡ a)
+one_anew : (word : List ℕ) (free : ℕ) (one other : List ℕ) (a b : ℕ) → IsBlossoming word → IsPlantedAnew word free one a → IsPlantedAnew word free other b → (other ≡ one) × (b ≡ a)
 one_anew word free one other a b tree x y =
     let leaves : y.leaf ≡ x.leaf = same_leaf word free one other a b tree x y in
     let there : IsReplanted word x.leaf other = subst (λ (k : ℕ). IsReplanted word k other) leaves y.is_replanted in
@@ -73,15 +74,26 @@ one_anew word free one other a b tree x y =
           let start_in = leaf_within (contour word) x.leaf x.is_replanted.start x.is_replanted.is_start in
           sym (steps_are (length (contour word)) x.is_replanted.start x.now (omega arith) (omega arith)) ∙ ap (steps_to (length (contour word)) x.is_replanted.start) x.is_old_plant
 
+-- and closed, it gives one canonical map and one old plant
+pub closed_anew_once : (word same_word : List ℕ) (free : ℕ) (one other : List ℕ) (a b : ℕ) (map same_map : RotationSystem) → IsBlossoming word → same_word ≡ word
+    → IsPlantedAnew word free one a → IsPlantedAnew same_word free other b → IsCanonicalClosure one map → IsCanonicalClosure other same_map → (map ≡ same_map) × (a ≡ b)
+closed_anew_once word same_word free one other a b map same_map tree words x y closed other_closed =
+    let same = one_anew word free one other a b tree x (subst (λ (w : List ℕ). IsPlantedAnew w free other b) words y) in (
+      one_canonical_closure one map same_map (anew_blossoms word free one a tree x) (anew_balances word free one a tree x) closed
+          (subst (λ (w : List ℕ). IsCanonicalClosure w same_map) same.0 other_closed),
+      sym same.1,
+    )
+
+-- the old plant is one of the leaves
+pub old_plant_few : (word : List ℕ) (free : ℕ) (turned : List ℕ) (old : ℕ) → IsBlossoming word → IsPlantedAnew word free turned old → old < leaves word
+old_plant_few word free turned old tree x =
+    subst (λ (n : ℕ). old < n) (replanted_alike word x.leaf turned tree x.is_replanted).leaves_are (leaf_few (contour turned) old x.now x.is_old_number)
+
 pub one_quartic_sample : (n : ℕ) → IsQuarticSize n → HasOneSample (SamplesQuartic n)
 one_quartic_sample n size choices map other residue rest x y =
     let long : length (take n (drop n choices)) ≡ n = ranks_long n choices (x.valid.as_long ∙ length-quartic_choices n) in
     let few = size.few in
     let words : y.word ≡ x.word = planted_unique (grown (take n choices)) (take n (drop n choices)) y.word x.word y.is_planted x.is_planted in
     let tree : IsBlossoming x.word = planted_blossoming (grown (take n choices)) (take n (drop n choices)) x.word x.is_planted (omega arith) in
-    let there : IsPlantedAnew x.word (slice_index choices (2 * n)) y.turned y.old_plant = subst (λ (w : List ℕ). IsPlantedAnew w (slice_index choices (2 * n)) y.turned y.old_plant) words y.is_anew in
-    let same = one_anew x.word (slice_index choices (2 * n)) x.turned y.turned x.old_plant y.old_plant tree x.is_anew there in (
-      one_canonical_closure x.turned map other (anew_blossoms x.word (slice_index choices (2 * n)) x.turned x.old_plant tree x.is_anew)
-          (anew_balances x.word (slice_index choices (2 * n)) x.turned x.old_plant tree x.is_anew) x.is_closed (subst (λ (w : List ℕ). IsCanonicalClosure w other) same.0 y.is_closed),
-      x.residue_is ∙ ap (λ (k : ℕ). k ∷ code_of (labels_of (grown (take n choices)))) (sym same.1) ∙ sym y.residue_is,
-    )
+    let same = closed_anew_once x.word y.word (slice_index choices (2 * n)) x.turned y.turned x.old_plant y.old_plant map other tree words x.is_anew y.is_anew x.is_closed y.is_closed in
+    (same.0, x.residue_is ∙ ap (λ (k : ℕ). k ∷ code_of (labels_of (grown (take n choices)))) same.1 ∙ sym y.residue_is)

@@ -8,9 +8,7 @@ use Rattle.pm_remy.specs.Tree.{Tree, labels_of, leaves}
 use Rattle.pm_remy.specs.Growth.{grown}
 use Rattle.pm_remy.proofs.Grown.{counted-grown}
 use Rattle.pm_remy.proofs.Once.{counted-leaves}
-use Rattle.pm_trees.specs.Word.{contour}
 use Rattle.pm_trees.specs.Blossoming.{IsBlossoming}
-use Rattle.pm_trees.proofs.LeafTurns.{leaf_few}
 use Rattle.pm_trees.proofs.Replants.{replanted_alike}
 use Rattle.pm_map.specs.Rotation.{RotationSystem, structure_of}
 use Rattle.pm_map.specs.Classes.{IsQuartic}
@@ -26,7 +24,7 @@ use Rattle.pm_euler.proofs.PlantingTrees.{planted_blossoming, planted_no_other, 
 use Rattle.pm_euler.proofs.PlantingWords.{planted_exists}
 use Rattle.pm_euler.proofs.ClosedAnew.{HasClosure, closed_anew}
 use Rattle.pm_euler.proofs.ClosedMaps.{quartic_closure}
-use Rattle.pm_euler.proofs.OneSample.{anew_blossoms, anew_balances}
+use Rattle.pm_euler.proofs.OneSample.{anew_blossoms, anew_balances, old_plant_few}
 
 -- the tree that the choices grow has a leaf more than the size
 pub grown_leaves : (n : ℕ) (choices : List ℕ) → IsValidList choices (quartic_choices n) → leaves (grown (take n choices)) ≡ suc n
@@ -52,11 +50,8 @@ sampled_old : (n : ℕ) (tree : Tree) (ranks word : List ℕ) (free : ℕ) (turn
     → IsPlantedAnew word free turned old_plant → old_plant < n + 2
 sampled_old n tree ranks word free turned old_plant size long is anew =
     let few = size.few in
-    let blossoming : IsBlossoming word = planted_blossoming tree ranks word is (omega arith) in
-    let alike = replanted_alike word anew.leaf turned blossoming anew.is_replanted in
-    below (leaf_few (contour turned) old_plant anew.now anew.is_old_number) (alike.leaves_are ∙ planted_leaves tree ranks word is ∙ ap (λ (k : ℕ). k + 2) long) where
-      below : {count : ℕ} → old_plant < count → count ≡ n + 2 → old_plant < n + 2
-      below low e = subst (λ (k : ℕ). old_plant < k) e low
+    subst (λ (count : ℕ). old_plant < count) (planted_leaves tree ranks word is ∙ ap (λ (k : ℕ). k + 2) long)
+    (old_plant_few word free turned old_plant (planted_blossoming tree ranks word is (omega arith)) anew)
 
 pub quartic_sampled : (n : ℕ) (choices : List ℕ) (tree : Tree) (ranks word turned : List ℕ) (old_plant : ℕ) (map : RotationSystem) (residue : List ℕ) → IsQuarticSize n → IsValidList choices (quartic_choices n)
     → tree ≡ grown (take n choices) → ranks ≡ take n (drop n choices) → IsPlanted tree ranks word → IsPlantedAnew word (slice_index choices (2 * n)) turned old_plant → IsCanonicalClosure turned map
