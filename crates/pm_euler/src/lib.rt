@@ -29,3 +29,5 @@ mod plane_planting_tests;
 mod planting_tests;
 #[cfg(test)]
 mod tests;
+#[cfg(test)]
+mod unplanting_tests;
