@@ -1,9 +1,10 @@
 -- The opening of a map, with one of its leaves as the old plant, comes from a tree and one of its free leaves.
-use Rattle.std.proofs.Common.{◌≡◌, ℕ, ◌<◌, inl, inr, List, length, take, sym, ◌∙◌, ap, subst, arith}
+use Rattle.std.proofs.Common.{◌≡◌, ℕ, suc, ◌/◌, ◌<◌, inl, inr, List, length, take, sym, ◌∙◌, ap, subst, arith}
 use Rattle.pm_limits.specs.declared.TheConstants.{MAX_DEGREE}
 use Rattle.pm_trees.specs.declared.letters.TheConstants.{LEAF}
 use Rattle.pm_trees.specs.Word.{contour, count}
-use Rattle.pm_trees.specs.Blossoming.{IsBlossoming, leaves}
+use Rattle.pm_trees.specs.Blossoming.{IsBlossoming, leaves, edges}
+use Rattle.pm_trees.specs.Degrees.{nodes_of}
 use Rattle.pm_trees.specs.Leaves.{IsLeafAt}
 use Rattle.pm_trees.specs.Replanted.{IsReplanted}
 use Rattle.pm_trees.specs.Replanting.{IsAlike, leaf_after}
@@ -16,10 +17,12 @@ use Rattle.pm_match.proofs.Paired.{pairing_exists}
 use Rattle.pm_match.proofs.PairTurns.{free_leaf_balances}
 use Rattle.pm_map.specs.Rotation.{RotationSystem, structure_of, IsRootedMap}
 use Rattle.pm_map.specs.ClassRules.{AllAdmitted}
+use Rattle.pm_map.specs.Classes.{vertices_of_degree}
 use Rattle.pm_map.specs.declared.admitted.Degrees.TheVariants.{EvenUpTo}
 use Rattle.pm_map.specs.Canonical.{IsCanonical, IsCanonicalOf}
 use Rattle.pm_map.proofs.SameMaps.{same_as_itself, same_symmetric, same_transitive}
 use Rattle.pm_open.specs.Opening.{IsOpening}
+use Rattle.pm_open.proofs.KeptByOpening.{kept_degrees, kept_edges}
 use Rattle.pm_open.proofs.SomeOpening.{each_map_opens}
 use Rattle.pm_euler.specs.Closed.{IsCanonicalClosure}
 use Rattle.pm_euler.specs.PlantedAnew.{IsFreeLeaf, IsPlantedAnew}
@@ -108,6 +111,17 @@ unplanted_closes map canonical old word free rooted named is = record {
 -- which is the map itself where it is canonical
 pub canonical_closes : (map : RotationSystem) (old : ℕ) (word : List ℕ) (free : ℕ) → IsRootedMap map → IsCanonical map → (is : IsUnplanted map old word free) → IsCanonicalClosure is.turned map
 canonical_closes map old word free rooted canonical is = unplanted_closes map map old word free rooted (record { is_canonical = canonical; is_same = same_as_itself (structure_of map) }) is
+
+-- of each degree the tree has as many nodes as the map has vertices, and the map has as many edges as are counted in it
+module _ (map : RotationSystem) (old : ℕ) (word : List ℕ) (free : ℕ) (rooted : IsRootedMap map) (is : IsUnplanted map old word free) where
+  alike : IsAlike word is.turned
+  alike = replanted_alike word is.is_anew.leaf is.turned is.blossoming is.is_anew.is_replanted
+
+  pub unplanted_degrees : (degree : ℕ) → nodes_of word degree ≡ vertices_of_degree (structure_of map) degree
+  unplanted_degrees degree = sym (kept_degrees map is.turned rooted is.is_opening degree ∙ alike.degrees degree)
+
+  pub unplanted_edges : edges word ≡ length map.sigma / 2
+  unplanted_edges = ap (λ (n : ℕ). suc n / 2) (sym alike.letters) ∙ kept_edges map is.turned is.is_opening
 
 -- which of the free leaves the leaf of a number is, as the list of pairs gives them
 pub number_first : (word : List ℕ) (found : Pairs) (leaf place : ℕ) → IsPairing (contour word) found → leaf ≡ count LEAF (take found.first_free (contour word)) → IsLeafAt (contour word) leaf place → IsFreeLeaf (contour word) 0 place
