@@ -7,7 +7,6 @@ use Rattle.pm_trees.specs.Word.{contour}
 use Rattle.pm_trees.specs.Blossoming.{IsBlossoming, leaves}
 use Rattle.pm_trees.specs.Degrees.{nodes_of}
 use Rattle.pm_trees.specs.Pairs.{IsProfile, edges_of, pair_at}
-use Rattle.pm_trees.proofs.Replants.{replanted_alike}
 use Rattle.pm_match.specs.Pair.{IsBalanced}
 use Rattle.pm_map.specs.Rotation.{RotationSystem, structure_of}
 use Rattle.pm_map.specs.Classes.{IsEulerian, vertices_of_degree}
@@ -26,7 +25,7 @@ use Rattle.pm_euler.proofs.ClosedAnew.{HasClosure, closed_anew}
 use Rattle.pm_euler.proofs.ClosedMaps.{canonical_closure_is_rooted}
 use Rattle.pm_euler.proofs.EulerianBounds.{arrangement_long, arrangement_is_valid, rank_is_valid, free_is_valid, eulerian_residue_is_valid}
 use Rattle.pm_euler.proofs.ObjectLemmas.{HasObjects, halves_are, halves_some, halves_few}
-use Rattle.pm_euler.proofs.OneSample.{anew_balances, closed_anew_once, old_plant_few}
+use Rattle.pm_euler.proofs.OneSample.{anew_alike, anew_balances, closed_anew_once, old_plant_few}
 use Rattle.pm_euler.proofs.PlaneLaws.{plane_planted_blossoming, plane_planted_leaves, plane_planted_nodes, plane_planted_no_odd}
 use Rattle.pm_euler.proofs.PlaneTrees.{plane_planted_exists, plane_planted_unique}
 use Rattle.pm_euler.proofs.Preorders.{HasPreorder, IsPreorder, preorder_exists, preorder_is, one_preorder}
@@ -75,7 +74,7 @@ module _ (pairs : List (ℕ × ℕ)) (ranks objects word : List ℕ) (is : IsPro
 sampled_class : (pairs : List (ℕ × ℕ)) (ranks objects word : List ℕ) (free : ℕ) (turned : List ℕ) (old_plant : ℕ) (map : RotationSystem) → IsProfile pairs → IsBlossoming word → HasObjects pairs objects
     → IsPlantedPlane (halves_of pairs) ranks objects word → IsPlantedAnew word free turned old_plant → IsCanonicalClosure turned map → IsEulerian (structure_of map) pairs
 sampled_class pairs ranks objects word free turned old_plant map is tree has planted anew closed =
-    let alike = replanted_alike word anew.leaf turned tree anew.is_replanted in
+    let alike = anew_alike word free turned old_plant tree anew in
     let balanced = anew_balances word free turned old_plant tree anew in
     let rooted = canonical_closure_is_rooted turned map alike.blossoming balanced closed in
     let degrees : (degree : ℕ) → vertices_of_degree (structure_of map) degree ≡ nodes_of word degree = λ degree. closure_degrees turned map alike.blossoming balanced closed degree ∙ alike.degrees degree in

@@ -7,6 +7,7 @@ use Rattle.pm_trees.specs.Word.{contour, count}
 use Rattle.pm_trees.specs.Blossoming.{IsBlossoming, leaves}
 use Rattle.pm_trees.specs.Leaves.{IsLeafAt}
 use Rattle.pm_trees.specs.Replanted.{IsReplanted}
+use Rattle.pm_trees.specs.Replanting.{IsAlike}
 use Rattle.pm_trees.proofs.Balance.{two_more_leaves}
 use Rattle.pm_trees.proofs.RingPlaces.{steps_to, steps_are}
 use Rattle.pm_trees.proofs.LeafTurns.{one_leaf, leaf_few, leaf_within}
@@ -44,8 +45,12 @@ one_free_leaf word _ _ p q tree e (first _ p_free p_least) (second _ r q_free r_
 one_free_leaf word _ _ p q tree e (second _ o p_free o_free before) (first _ q_free q_least) = absurd (omega arith)
 one_free_leaf word _ _ p q tree e (second _ o p_free o_free before) (second _ r q_free r_free after) = one_second word p q o r tree p_free q_free o_free r_free before after
 
+-- a tree that is planted anew is alike
+pub anew_alike : (word : List ℕ) (free : ℕ) (turned : List ℕ) (old : ℕ) → IsBlossoming word → IsPlantedAnew word free turned old → IsAlike word turned
+anew_alike word free turned old tree a = replanted_alike word a.leaf turned tree a.is_replanted
+
 pub anew_blossoms : (word : List ℕ) (free : ℕ) (turned : List ℕ) (old : ℕ) → IsBlossoming word → IsPlantedAnew word free turned old → IsBlossoming turned
-anew_blossoms word free turned old tree a = (replanted_alike word a.leaf turned tree a.is_replanted).blossoming
+anew_blossoms word free turned old tree a = (anew_alike word free turned old tree a).blossoming
 
 pub anew_balances : (word : List ℕ) (free : ℕ) (turned : List ℕ) (old : ℕ) → IsBlossoming word → IsPlantedAnew word free turned old → IsBalanced (contour turned)
 anew_balances word free turned old tree a = anew_balanced word free a.leaf a.place turned tree a.is_free a.numbered a.is_replanted
@@ -87,7 +92,7 @@ closed_anew_once word same_word free one other a b map same_map tree words x y c
 -- the old plant is one of the leaves
 pub old_plant_few : (word : List ℕ) (free : ℕ) (turned : List ℕ) (old : ℕ) → IsBlossoming word → IsPlantedAnew word free turned old → old < leaves word
 old_plant_few word free turned old tree x =
-    subst (λ (n : ℕ). old < n) (replanted_alike word x.leaf turned tree x.is_replanted).leaves_are (leaf_few (contour turned) old x.now x.is_old_number)
+    subst (λ (n : ℕ). old < n) (anew_alike word free turned old tree x).leaves_are (leaf_few (contour turned) old x.now x.is_old_number)
 
 pub one_quartic_sample : (n : ℕ) → IsQuarticSize n → HasOneSample (SamplesQuartic n)
 one_quartic_sample n size choices map other residue rest x y =

@@ -9,7 +9,6 @@ use Rattle.pm_remy.specs.Growth.{grown}
 use Rattle.pm_remy.proofs.Grown.{counted-grown}
 use Rattle.pm_remy.proofs.Once.{counted-leaves}
 use Rattle.pm_trees.specs.Blossoming.{IsBlossoming}
-use Rattle.pm_trees.proofs.Replants.{replanted_alike}
 use Rattle.pm_map.specs.Rotation.{RotationSystem, structure_of}
 use Rattle.pm_map.specs.Classes.{IsQuartic}
 use Rattle.pm_euler.specs.Bounds.{quartic_choices, quartic_residues}
@@ -24,7 +23,7 @@ use Rattle.pm_euler.proofs.PlantingTrees.{planted_blossoming, planted_no_other, 
 use Rattle.pm_euler.proofs.PlantingWords.{planted_exists}
 use Rattle.pm_euler.proofs.ClosedAnew.{HasClosure, closed_anew}
 use Rattle.pm_euler.proofs.ClosedMaps.{quartic_closure}
-use Rattle.pm_euler.proofs.OneSample.{anew_blossoms, anew_balances, old_plant_few}
+use Rattle.pm_euler.proofs.OneSample.{anew_alike, anew_balances, old_plant_few}
 
 -- the tree that the choices grow has a leaf more than the size
 pub grown_leaves : (n : ℕ) (choices : List ℕ) → IsValidList choices (quartic_choices n) → leaves (grown (take n choices)) ≡ suc n
@@ -39,10 +38,10 @@ sampled_class : (n : ℕ) (tree : Tree) (ranks word : List ℕ) (free : ℕ) (tu
 sampled_class n tree ranks word free turned old_plant map size long is anew closed =
     let few = size.few in
     let blossoming : IsBlossoming word = planted_blossoming tree ranks word is (omega arith) in
-    let alike = replanted_alike word anew.leaf turned blossoming anew.is_replanted in
+    let alike = anew_alike word free turned old_plant blossoming anew in
     let letters = alike.letters in
     let whole = planted_length tree ranks word is in
-    quartic_closure turned map n (anew_blossoms word free turned old_plant blossoming anew) (anew_balances word free turned old_plant blossoming anew)
+    quartic_closure turned map n alike.blossoming (anew_balances word free turned old_plant blossoming anew)
     (λ d other. alike.degrees d ∙ planted_no_other tree ranks word d is other) (omega arith) closed
 
 -- the old plant is one of the leaves

@@ -28,6 +28,7 @@ use Rattle.pm_euler.specs.Closed.{IsCanonicalClosure}
 use Rattle.pm_euler.specs.PlantedAnew.{IsFreeLeaf, IsPlantedAnew}
 use Rattle.pm_euler.specs.Unplanted.{IsUnplanted}
 use Rattle.pm_euler.proofs.FreeLeaves.{first_is_free, second_is_free, anew_from}
+use Rattle.pm_euler.proofs.OneSample.{anew_alike}
 
 -- a free leaf and its number
 record IsNumbered (places : List ℕ) (place : ℕ) : Type 0 where
@@ -115,7 +116,7 @@ canonical_closes map old word free rooted canonical is = unplanted_closes map ma
 -- of each degree the tree has as many nodes as the map has vertices, and the map has as many edges as are counted in it
 module _ (map : RotationSystem) (old : ℕ) (word : List ℕ) (free : ℕ) (rooted : IsRootedMap map) (is : IsUnplanted map old word free) where
   alike : IsAlike word is.turned
-  alike = replanted_alike word is.is_anew.leaf is.turned is.blossoming is.is_anew.is_replanted
+  alike = anew_alike word free is.turned old is.blossoming is.is_anew
 
   pub unplanted_degrees : (degree : ℕ) → nodes_of word degree ≡ vertices_of_degree (structure_of map) degree
   unplanted_degrees degree = sym (kept_degrees map is.turned rooted is.is_opening degree ∙ alike.degrees degree)
