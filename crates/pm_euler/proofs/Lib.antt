@@ -1,6 +1,7 @@
 pub mod BoundLemmas
 pub mod ClosedAnew
 pub mod ClosedMaps
+pub mod EntryTexts
 pub mod EulerianBounds
 pub mod EulerianChoices
 pub mod EulerianMaps
@@ -24,5 +25,6 @@ pub mod QuarticSamples
 pub mod RootRows
 pub mod Rows
 pub mod SidePatterns
+pub mod SideReading
 pub mod SideTexts
 pub mod SomeUnplanting
