@@ -24,6 +24,7 @@ pub mod QuarticMaps
 pub mod QuarticSamples
 pub mod RootRows
 pub mod Rows
+pub mod SameSides
 pub mod SidePatterns
 pub mod SideReading
 pub mod SideTexts

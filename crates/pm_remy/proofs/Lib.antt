@@ -10,6 +10,7 @@ mod Placing
 pub mod Once
 pub mod Prunes
 pub mod Reading
+pub mod Shapes
 mod Stacked
 mod Stepping
 pub mod Ungrown
