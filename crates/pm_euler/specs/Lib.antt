@@ -8,3 +8,4 @@ pub mod PlantedAnew
 pub mod Quartic
 pub mod Sampling
 pub mod Unplanted
+pub mod Unsampling
