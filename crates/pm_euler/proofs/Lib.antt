@@ -22,6 +22,7 @@ pub mod PlantingTrees
 pub mod PlantingWords
 pub mod Preorders
 pub mod QuarticChoices
+pub mod QuarticLists
 pub mod QuarticMaps
 pub mod QuarticSamples
 pub mod RootRows
