@@ -30,4 +30,5 @@ pub mod Rows
 pub mod SameSides
 pub mod SidePatterns
 pub mod SideTexts
+pub mod SidesBehind
 pub mod SomeUnplanting

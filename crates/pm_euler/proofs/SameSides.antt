@@ -28,17 +28,17 @@ abbrev pub BeginsWithBud : List ℕ → Type 0
 BeginsWithBud text = (xs : List ℕ) × ((ys : List ℕ) × (BUD ∷ xs ≡ text ++ ys))
 
 -- a pattern filled with two texts, and what follows
-first_filled : (pattern left right after : List ℕ) → pattern ≡ BUD ∷ SLOT ∷ SLOT ∷ [] → filled pattern (left ∷ right ∷ []) ++ after ≡ BUD ∷ (left ++ (right ++ after))
+pub first_filled : (pattern left right after : List ℕ) → pattern ≡ BUD ∷ SLOT ∷ SLOT ∷ [] → filled pattern (left ∷ right ∷ []) ++ after ≡ BUD ∷ (left ++ (right ++ after))
 first_filled pattern left right after e =
     let letters : (BUD ∷ (left ++ (right ++ []))) ++ after ≡ BUD ∷ (left ++ (right ++ after)) = simp (append_assoc, append-nil) in
     subst (λ (w : List ℕ). filled w (left ∷ right ∷ []) ++ after ≡ BUD ∷ (left ++ (right ++ after))) (sym e) letters
 
-second_filled : (pattern left right after : List ℕ) → pattern ≡ SLOT ∷ BUD ∷ SLOT ∷ [] → filled pattern (left ∷ right ∷ []) ++ after ≡ left ++ (BUD ∷ (right ++ after))
+pub second_filled : (pattern left right after : List ℕ) → pattern ≡ SLOT ∷ BUD ∷ SLOT ∷ [] → filled pattern (left ∷ right ∷ []) ++ after ≡ left ++ (BUD ∷ (right ++ after))
 second_filled pattern left right after e =
     let letters : (left ++ (BUD ∷ (right ++ []))) ++ after ≡ left ++ (BUD ∷ (right ++ after)) = simp (append_assoc, append-nil) in
     subst (λ (w : List ℕ). filled w (left ∷ right ∷ []) ++ after ≡ left ++ (BUD ∷ (right ++ after))) (sym e) letters
 
-third_filled : (pattern left right after : List ℕ) → pattern ≡ SLOT ∷ SLOT ∷ BUD ∷ [] → filled pattern (left ∷ right ∷ []) ++ after ≡ left ++ (right ++ (BUD ∷ after))
+pub third_filled : (pattern left right after : List ℕ) → pattern ≡ SLOT ∷ SLOT ∷ BUD ∷ [] → filled pattern (left ∷ right ∷ []) ++ after ≡ left ++ (right ++ (BUD ∷ after))
 third_filled pattern left right after e =
     let letters : (left ++ (right ++ (BUD ∷ []))) ++ after ≡ left ++ (right ++ (BUD ∷ after)) = simp append_assoc in
     subst (λ (w : List ℕ). filled w (left ∷ right ∷ []) ++ after ≡ left ++ (right ++ (BUD ∷ after))) (sym e) letters

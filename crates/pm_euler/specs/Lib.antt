@@ -7,5 +7,6 @@ pub mod Planted
 pub mod PlantedAnew
 pub mod Quartic
 pub mod Sampling
+pub mod ShapeRead
 pub mod Unplanted
 pub mod Unsampling

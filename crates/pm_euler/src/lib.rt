@@ -12,6 +12,7 @@ mod plane_planting;
 mod planting;
 mod quartic;
 mod sample;
+mod shape_reading;
 mod unplanting;
 
 pub use eulerian::Eulerian;
