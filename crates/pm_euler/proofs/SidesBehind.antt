@@ -1,10 +1,13 @@
 -- The reading of a planted tree's word from its end: the letters that have been read, the entries that wait for the edge of
 -- their node, and the nodes and ranks that were read.
-use Rattle.std.proofs.Common.{◌≡◌, ℕ, zero, suc, ◌<◌, ◌≤◌, Bool, true, false, List, [], ◌∷◌, ◌++◌, length, reverse, drop, slice_index, refl, ap, ap₂, sym, ◌∙◌, subst, arith, append_assoc, append-nil, drop-cons}
-use Rattle.std.proofs.lemmas.List.{reverse-append, drop_all}
+use Rattle.std.proofs.Common.{◌≡◌, ℕ, zero, suc, ◌<◌, ◌≤◌, Bool, true, false, List, [], ◌∷◌, ◌++◌, length, reverse, drop, slice_index, All, IsTrue, refl, ap, ap₂, sym, ◌∙◌, subst, arith, append_assoc, append-nil, drop-cons}
+use Rattle.std.proofs.lemmas.List.{reverse-append, drop_all, same_from_push}
 use Rattle.pm_trees.specs.declared.letters.TheConstants.{LEAF, BUD, OPEN, CLOSE}
 use Rattle.pm_trees.specs.declared.patterns.TheConstants.{SLOT}
 use Rattle.pm_trees.specs.BudPattern.{IsPattern, HasRank}
+use Rattle.pm_trees.specs.Word.{is_letter}
+use Rattle.pm_trees.proofs.Tally.{letter_cases}
+use Rattle.pm_trees.proofs.Tally.IsOneOf.{a_leaf, a_bud, an_open, a_close}
 use Rattle.pm_trees.proofs.Ranked.{patterns_ranked}
 use Rattle.pm_remy.specs.Tree.{Tree, leaf, fork, shape_of}
 use Rattle.pm_euler.specs.Planted.{filled, IsSide, IsPlanted}
@@ -265,7 +268,7 @@ read_bud word place here entries more nodes ranks r next within e m =
           (subst (IsBehind (entries ++ BUD ∷ []) (reverse nodes) (reverse ranks)) (sym text) (bud entries (reverse nodes) (reverse ranks) (drop place word) r.behind));
     }
 
-pub read_close : (word : List ℕ) (place here : ℕ) (entries : List ℕ) (nodes : List Bool) (ranks : List ℕ) → IsReadFrom word place entries nodes ranks → place ≡ suc here → place ≤ length word → slice_index word here ≡ CLOSE
+read_close : (word : List ℕ) (place here : ℕ) (entries : List ℕ) (nodes : List Bool) (ranks : List ℕ) → IsReadFrom word place entries nodes ranks → place ≡ suc here → place ≤ length word → slice_index word here ≡ CLOSE
     → IsReadFrom word here entries nodes ranks
 read_close word place here entries nodes ranks r next within e =
     let text = letter_read word place here CLOSE next within e in
@@ -322,6 +325,16 @@ root_waits tree side_ranks word entries nodes ranks planted read =
     let f = root_next tree side_ranks word entries nodes ranks r read in
     record { rest = f.rest; pattern = r.pattern; is_pattern = r.has_rank.is_pattern; entries_are = f.entries_are }
 
+-- of the four letters a letter is the closing bracket where it is none of the others
+pub read_other : (word : List ℕ) (place here : ℕ) (entries : List ℕ) (nodes : List Bool) (ranks : List ℕ) → IsReadFrom word place entries nodes ranks → place ≡ suc here → place ≤ length word → All (λ x. IsTrue (is_letter x)) word
+    → (slice_index word here ≡ LEAF → ⊥) → (slice_index word here ≡ BUD → ⊥) → (slice_index word here ≡ OPEN → ⊥) → IsReadFrom word here entries nodes ranks
+read_other word place here entries nodes ranks r next within letters no_leaf no_bud no_open = elim (letter_cases (slice_index word here) (letters here 0 (omega arith))) [
+  | a_leaf e ↦ absurd (no_leaf e)
+  | a_bud e ↦ absurd (no_bud e)
+  | an_open e ↦ absurd (no_open e)
+  | a_close e ↦ read_close word place here entries nodes ranks r next within e
+]
+
 -- the nodes and the ranks are the last ones first
 pub record AreReadBack (tree : Tree) (side_ranks : List ℕ) (nodes : List Bool) (ranks : List ℕ) : Type 0 where
   pub shape_is : reverse nodes ≡ shape_of tree
@@ -341,3 +354,24 @@ read_root tree side_ranks word entries left nodes shape ranks others rank plante
       shape_is = reverse_push true nodes shape s ∙ ap (λ (bs : List Bool). true ∷ bs) (f.shape_is ∙ ap (λ (bs : List Bool). shape_of r.left ++ bs) right_shape) ∙ sym (ap shape_of r.tree_is);
       ranks_are = reverse_push rank ranks others o ∙ ap₂ (λ (k : ℕ) (rs : List ℕ). k ∷ rs) one (f.ranks_are ∙ ap (λ (rs : List ℕ). r.left_ranks ++ rs) right_ranks) ∙ sym r.ranks_are;
     }
+
+-- three entries that are taken, where a pattern waits
+pub record AreThreeTaken (left rest pattern : List ℕ) (x y z : ℕ) : Type 0 where
+  pub pattern_is : pattern ≡ x ∷ y ∷ z ∷ []
+  pub left_is : left ≡ rest
+
+pub three_taken : (entries below deeper left rest pattern : List ℕ) (x y z : ℕ) → entries ≡ below ++ x ∷ [] → below ≡ deeper ++ y ∷ [] → deeper ≡ left ++ z ∷ [] → IsPattern 2 pattern → entries ≡ rest ++ reverse pattern
+    → AreThreeTaken left rest pattern x y z
+three_taken entries below deeper left rest [] x y z e f g p h = absurd (let l = p.as_long in omega arith)
+three_taken entries below deeper left rest (u ∷ []) x y z e f g p h = absurd (let l = p.as_long in omega arith)
+three_taken entries below deeper left rest (u ∷ v ∷ []) x y z e f g p h = absurd (let l = p.as_long in omega arith)
+three_taken entries below deeper left rest (u ∷ v ∷ w ∷ []) x y z e f g p h =
+    let stack : rest ++ w ∷ v ∷ u ∷ [] ≡ ((rest ++ w ∷ []) ++ v ∷ []) ++ u ∷ [] = sym (simp append_assoc) in
+    let one = same_from_push below ((rest ++ w ∷ []) ++ v ∷ []) x u (sym e ∙ h ∙ stack) in
+    let two = same_from_push deeper (rest ++ w ∷ []) y v (sym f ∙ one.0) in
+    let three = same_from_push left rest z w (sym g ∙ two.0) in
+    let a : x ≡ u = one.1 in
+    let b : y ≡ v = two.1 in
+    let c : z ≡ w = three.1 in
+    record { pattern_is = cc; left_is = three.0 }
+three_taken entries below deeper left rest (u ∷ v ∷ w ∷ t ∷ more) x y z e f g p h = absurd (let l = p.as_long in omega arith)

@@ -1,8 +1,20 @@
--- The laws of a class of maps by which sampling is undone: a map and a residue come from exactly one list of choices.
-use Rattle.std.specs.Prelude.{◌≡◌, ℕ, List}
+-- Sampling undone, for any class: the one list of choices of a map and a residue.
+use Rattle.std.specs.Prelude.{◌≡◌, ℕ, List, Result, Ok}
 use Rattle.pm_lists.specs.Valid.{IsValidList}
 use Rattle.pm_map.specs.Rotation.{RotationSystem, IsRootedMap}
-use Rattle.pm_map.specs.Canonical.{IsCanonical}
+use Rattle.pm_map.specs.Canonical.{IsCanonical, IsCanonicalOf}
+use Rattle.pm_map.specs.declared.class_refusal.ClassRefusal.{ClassRefusal}
+
+-- The map is in the class, and the residue is valid for its size. The choices are valid for it, and give the canonical map
+-- of the map and the residue.
+pub record IsUnsampled {Size : Type 0} (choice_limits residue_limits : Size → List ℕ) (samples : Size → List ℕ → RotationSystem → List ℕ → Type 0) (answers : RotationSystem → Result Size ClassRefusal → Type 0) (map : RotationSystem) (residue choices : List ℕ) : Type 0 where
+  pub size : Size
+  pub in_class : answers map (Ok size)
+  pub valid_residue : IsValidList residue (residue_limits size)
+  pub canonical : RotationSystem
+  pub is_canonical : IsCanonicalOf map canonical
+  pub valid : IsValidList choices (choice_limits size)
+  pub given : samples size choices canonical residue
 
 -- a law: a map and a residue come from no two lists of choices
 abbrev pub HasOneList : (List ℕ → RotationSystem → List ℕ → Type 0) → Type 0

@@ -11,6 +11,7 @@ mod objects;
 mod plane_planting;
 mod planting;
 mod quartic;
+mod quartic_unsampling;
 mod sample;
 mod shape_reading;
 mod unplanting;
