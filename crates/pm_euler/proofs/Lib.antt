@@ -25,6 +25,7 @@ pub mod QuarticChoices
 pub mod QuarticLists
 pub mod QuarticMaps
 pub mod QuarticSamples
+pub mod QuarticUnsampled
 pub mod RootRows
 pub mod Rows
 pub mod SameSides

@@ -92,14 +92,20 @@ opening_leaves map n opening rooted quartic is =
     let read = planted_of_size n opening is.blossoming (opening_no_other map n opening rooted quartic is) (opening_edges map n opening rooted quartic is) in
     planted_leaves read.tree read.ranks opening read.is_planted ∙ ap (λ (k : ℕ). k + 2) read.long
 
--- the tree that is planted anew as the opening is planted of a shape and as many ranks as the map has vertices
+-- the tree that is planted anew as the opening has as many edges
+pub unplanted_edges : (map : RotationSystem) (n old_plant : ℕ) (word : List ℕ) (free : ℕ) → IsRootedMap map → IsQuartic (structure_of map) n → IsUnplanted map old_plant word free → edges word ≡ 2 * n
+unplanted_edges map n old_plant word free rooted quartic is =
+    let alike : IsAlike word is.turned = replanted_alike word is.is_anew.leaf is.turned is.blossoming is.is_anew.is_replanted in
+    ap (λ (k : ℕ). suc k / 2) (sym alike.letters) ∙ opening_edges map n is.turned rooted quartic is.is_opening
+
+-- it is planted of a shape and as many ranks as the map has vertices
 pub unplanted_reads : (map : RotationSystem) (n old_plant : ℕ) (word : List ℕ) (free : ℕ) → IsRootedMap map → IsQuartic (structure_of map) n → IsUnplanted map old_plant word free → IsPlantedOfSize n word
 unplanted_reads map n old_plant word free rooted quartic is =
     let alike : IsAlike word is.turned = replanted_alike word is.is_anew.leaf is.turned is.blossoming is.is_anew.is_replanted in
     planted_of_size n word is.blossoming (λ d other. sym (alike.degrees d) ∙ opening_no_other map n is.turned rooted quartic is.is_opening d other)
-    (ap (λ (k : ℕ). suc k / 2) (sym alike.letters) ∙ opening_edges map n is.turned rooted quartic is.is_opening)
+    (unplanted_edges map n old_plant word free rooted quartic is)
 
--- an entry of a valid residue behind the first
+-- behind its first entry a valid residue is a code
 pub tail_is_code : (n old_plant : ℕ) (code : List ℕ) → IsValidList (old_plant ∷ code) (quartic_residues n) → IsArrangementCode code
 tail_is_code n old_plant code valid = record {
   below = λ k less.

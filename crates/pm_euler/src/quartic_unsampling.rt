@@ -1,5 +1,5 @@
 //! Quartic maps: from a map and a residue back to the choices.
-ghost use Rattle.std.specs.Prelude.{IfOk};
+ghost use Rattle.std.specs.Prelude.{ℕ, IfOk};
 ghost use Rattle.pm_lists.specs.Valid.{IsValidList};
 ghost use Rattle.pm_map.specs.ClassRules.{IsQuarticAnswer};
 ghost use Rattle.pm_map.specs.Classes.{IsQuartic};
@@ -16,22 +16,21 @@ use pm_map::RootedMap;
 use pm_remy::{tree_of_shape, ungrow};
 use std::alloc::{AllocError, Global};
 
-/// The choices that give the canonical map of a quartic map with `size` vertices, and this residue.
+/// The choices that give the canonical map of a quartic map, and this residue.
 pub(crate) fn unsample_of_class(
     alloc: Global,
     map: &RootedMap,
-    size: u32,
     residue: &[u64],
 ) -> Result<NumList, AllocError>
-    requires class { IsQuartic (structure_of map.now) size }
-    requires valid { IsValidList residue.now (quartic_residues size) }
+    requires { (size : ℕ) × (IsQuartic (structure_of map.now) size × IsValidList residue.now (quartic_residues size)) }
     ensures { IfOk result (IsUnsampled quartic_choices quartic_residues SamplesQuartic IsQuarticAnswer map.now residue.now) }
 {
+    let mut choices = Vec::with_capacity(alloc, map.edges() as usize + 1)?;
     let unplanted = unplant(alloc, map, residue[0] as u32)?;
     let read = shape_and_ranks(alloc, &unplanted.tree)?;
     let labels = arrange(alloc, &residue[1..])?;
     let tree = tree_of_shape(alloc, &read.nodes, &labels)?;
-    let mut choices = ungrow(alloc, &tree)?;
+    choices.extend_from_slice(&ungrow(alloc, &tree)?)?;
     choices.extend_from_slice(&read.ranks)?;
     choices.push(unplanted.free)?;
     Ok(NumList::of(choices))
