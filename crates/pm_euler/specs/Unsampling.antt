@@ -1,9 +1,13 @@
 -- Sampling undone, for any class: the one list of choices of a map and a residue.
-use Rattle.std.specs.Prelude.{◌≡◌, ℕ, List, Result, Ok}
+use Rattle.std.specs.Prelude.{◌≡◌, ℕ, List, Result, Ok, Err, ⊤}
 use Rattle.pm_lists.specs.Valid.{IsValidList}
+use Rattle.pm_lists.specs.Refusal.{IsRefusalOf}
 use Rattle.pm_map.specs.Rotation.{RotationSystem, IsRootedMap}
 use Rattle.pm_map.specs.Canonical.{IsCanonical, IsCanonicalOf}
 use Rattle.pm_map.specs.declared.class_refusal.ClassRefusal.{ClassRefusal}
+use Rattle.pm_map.specs.declared.class_refusal.ClassRefusal.TheVariants.{Memory as MemoryOfClass}
+use Rattle.pm_euler.specs.declared.sample.UnsampleRefusal.{UnsampleRefusal}
+use Rattle.pm_euler.specs.declared.sample.UnsampleRefusal.TheVariants.{Memory, Class, List as NotValid}
 
 -- The map is in the class, and the residue is valid for its size. The choices are valid for it, and give the canonical map
 -- of the map and the residue.
@@ -15,6 +19,16 @@ pub record IsUnsampled {Size : Type 0} (choice_limits residue_limits : Size → 
   pub is_canonical : IsCanonicalOf map canonical
   pub valid : IsValidList choices (choice_limits size)
   pub given : samples size choices canonical residue
+
+-- The choices of the map and the residue; or the first rule of the class that the map breaks; or in what the residue isn't
+-- valid for the map's size. Want of memory may come at any.
+abbrev pub IsUnsampling : {Size : Type 0} → (Size → List ℕ) → (Size → List ℕ) → (Size → List ℕ → RotationSystem → List ℕ → Type 0) → (RotationSystem → Result Size ClassRefusal → Type 0) → RotationSystem → List ℕ → Result (List ℕ) UnsampleRefusal → Type 0
+IsUnsampling choice_limits residue_limits samples answers map residue (Ok choices) =
+    IsUnsampled choice_limits residue_limits samples answers map residue choices
+IsUnsampling choice_limits residue_limits samples answers map residue (Err (Class refusal)) = answers map (Err refusal) × (refusal ≡ MemoryOfClass → ⊥)
+IsUnsampling {Size} choice_limits residue_limits samples answers map residue (Err (NotValid refusal)) =
+    (size : Size) × (answers map (Ok size) × IsRefusalOf residue (residue_limits size) refusal)
+IsUnsampling choice_limits residue_limits samples answers map residue (Err Memory) = ⊤
 
 -- a law: a map and a residue come from no two lists of choices
 abbrev pub HasOneList : (List ℕ → RotationSystem → List ℕ → Type 0) → Type 0

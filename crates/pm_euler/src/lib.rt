@@ -15,11 +15,12 @@ mod quartic_unsampling;
 mod sample;
 mod shape_reading;
 mod unplanting;
+mod unsampling;
 
 pub use eulerian::Eulerian;
 pub use map_class::MapClass;
 pub use quartic::Quartic;
-pub use sample::{Sample, SampleRefusal};
+pub use sample::{Sample, SampleRefusal, UnsampleRefusal};
 
 #[cfg(test)]
 mod eulerian_tests;

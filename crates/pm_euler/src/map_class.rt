@@ -3,9 +3,10 @@ ghost use Rattle.std.specs.Prelude.{◌≡◌, ◌↔◌, ℕ, List, Result, IfO
 ghost use Rattle.pm_map.specs.Rotation.{RotationSystem};
 ghost use Rattle.pm_map.specs.declared.class_refusal.ClassRefusal.{ClassRefusal};
 ghost use Rattle.pm_euler.specs.Sampling.{IsSampling, IsSizeWhereAnswered, HasOneAnswer, HasOneSample, EachListIsSampled};
+ghost use Rattle.pm_euler.specs.Unsampling.{IsUnsampling, HasOneList, EachPairIsSampled};
 
-use crate::sample::{Sample, SampleRefusal};
-use pm_lists::Bounds;
+use crate::sample::{Sample, SampleRefusal, UnsampleRefusal};
+use pm_lists::{Bounds, NumList};
 use pm_map::{ClassRefusal, RootedMap};
 use std::alloc::{AllocError, Global};
 
@@ -72,6 +73,20 @@ pub trait MapClass {
         requires { is_size size.now }
         ensures { IsSampling (choice_limits size.now) (residue_limits size.now) (has size.now) (samples size.now choices.now) choices.now result };
 
+    /// The choices that give the canonical map of the map, and this residue: the one valid list for the map's size that
+    /// does.
+    ///
+    /// # Errors
+    ///
+    /// `Class` exactly where the map isn't in the class, as [`MapClass::size_of`] says; else `List` exactly where the residue
+    /// isn't valid for the residue bounds of the map's size; or `Memory`, which may come at any map.
+    fn unsample(
+        alloc: Global,
+        map: &RootedMap,
+        residue: &[u64],
+    ) -> Result<NumList, UnsampleRefusal>
+        ensures { IsUnsampling choice_limits residue_limits samples answers map.now residue.now result };
+
     /// The laws of the class, to call upon; nothing is computed. A map is answered a size exactly where it is in the
     /// class with that size, which is admissible then; it has one answer, but for want of memory. Each valid list of
     /// choices of a size gives a map and a residue, and no list gives two.
@@ -80,4 +95,11 @@ pub trait MapClass {
         ensures one_answer { HasOneAnswer answers }
         ensures each_sampled { (size : Self.Size) → is_size size → EachListIsSampled (choice_limits size) (residue_limits size) (has size) (samples size) }
         ensures one_sample { (size : Self.Size) → is_size size → HasOneSample (samples size) };
+
+    /// The laws of undoing, to call upon; nothing is computed. Each canonical map of the class and a size comes with each
+    /// valid residue from some valid list of choices, and from no two. So with [`MapClass::is_sampled_once`] the valid
+    /// lists of a size are one to one with its canonical maps and valid residues, and each map comes from as many lists.
+    fn is_unsampled_once()
+        ensures each_pair { (size : Self.Size) → is_size size → EachPairIsSampled (choice_limits size) (residue_limits size) (has size) (samples size) }
+        ensures one_list { (size : Self.Size) → is_size size → HasOneList (samples size) };
 }

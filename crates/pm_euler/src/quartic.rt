@@ -15,7 +15,9 @@ use crate::bounds::{limits_of_growth, limits_with_code};
 use crate::closing::canonical_closure;
 use crate::map_class::MapClass;
 use crate::planting::plant;
-use crate::sample::{Sample, SampleRefusal};
+use crate::quartic_unsampling::unsample_of_class;
+use crate::sample::{Sample, SampleRefusal, UnsampleRefusal};
+use crate::unsampling::check_pair;
 use pm_lehmer::code;
 use pm_limits::MAX_EDGES;
 use pm_lists::{Bounds, NumList, check_list};
@@ -77,7 +79,18 @@ impl MapClass for Quartic {
         Ok(sample_of_valid(alloc, *size, choices)?)
     }
 
+    fn unsample(
+        alloc: Global,
+        map: &RootedMap,
+        residue: &[u64],
+    ) -> Result<NumList, UnsampleRefusal> {
+        check_pair::<Quartic>(alloc, map, residue)?;
+        Ok(unsample_of_class(alloc, map, residue)?)
+    }
+
     fn is_sampled_once() {}
+
+    fn is_unsampled_once() {}
 }
 
 /// The bounds of the choices: a growth, a bud pattern for each fork, and one of the two free leaves.

@@ -1,8 +1,8 @@
-//! What sampling answers.
+//! What sampling answers, and its undoing.
 ghost use Rattle.std.specs.Prelude.{◌≡◌};
 
 use pm_lists::{ListRefusal, NumList};
-use pm_map::RootedMap;
+use pm_map::{ClassRefusal, RootedMap};
 use std::alloc::AllocError;
 
 /// A sampled map and the rest of its choices.
@@ -30,5 +30,26 @@ impl From<AllocError> for SampleRefusal {
 
     fn from(_error: AllocError) -> SampleRefusal {
         SampleRefusal::Memory
+    }
+}
+
+/// Why a map and a residue gave no choices.
+#[derive(Clone, Copy, Debug, PartialEq, Eq)]
+pub enum UnsampleRefusal {
+    /// There is no memory left. It may come at any map.
+    Memory,
+    /// The map isn't in the class: the first of the class's rules that it breaks, and never `Memory`.
+    Class(ClassRefusal),
+    /// The residue isn't valid for the class's residue bounds of the map's size.
+    List(ListRefusal),
+}
+
+impl From<AllocError> for UnsampleRefusal {
+    ghost use Rattle.pm_euler.specs.declared.sample.UnsampleRefusal.TheVariants.{Memory};
+
+    ghost from_gives = { λ _ refusal. refusal ≡ Memory };
+
+    fn from(_error: AllocError) -> UnsampleRefusal {
+        UnsampleRefusal::Memory
     }
 }
