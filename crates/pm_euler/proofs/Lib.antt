@@ -8,6 +8,7 @@ pub mod EulerianMaps
 pub mod EulerianSamples
 pub mod FilledRows
 pub mod FreeLeaves
+pub mod KindSides
 pub mod ObjectLemmas
 pub mod ObjectSums
 pub mod OneSample
@@ -30,6 +31,8 @@ pub mod RootRows
 pub mod Rows
 pub mod SameSides
 pub mod SidePatterns
+pub mod SideReading
 pub mod SideTexts
 pub mod SidesBehind
 pub mod SomeUnplanting
+pub mod WordKinds
