@@ -35,4 +35,5 @@ pub mod SideReading
 pub mod SideTexts
 pub mod SidesBehind
 pub mod SomeUnplanting
+pub mod Sorting
 pub mod WordKinds

@@ -2,3 +2,4 @@ pub mod CountBelow
 pub mod Halving
 pub mod Arranged
 pub mod Ranked
+pub mod Rising

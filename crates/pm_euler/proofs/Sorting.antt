@@ -1,0 +1,169 @@
+-- A list is told by the keys of its entries and, for each key, by the entries with it in their order.
+use Rattle.std.proofs.Common.{◌≡◌, ◌⊎◌, ℕ, zero, suc, ◌+◌, ◌<◌, ◌==◌, Bool, true, false, cond, inl, inr, List, [], ◌∷◌, length, map, filter, All, refl, ap, sym, ◌∙◌, subst, arith, eq-eqb, ne_eqb}
+use Rattle.std.specs.Prelude.{count_by, slice_index}
+use Rattle.std.specs.List.{sum_by}
+use Rattle.std.proofs.lemmas.Bool.{cases_eq, cases_Bool}
+use Rattle.std.proofs.lemmas.List.{nil_from_length}
+use Rattle.std.proofs.lemmas.List.Elements.{All-head, All-tail, All-cons, All-nil}
+use Rattle.std.proofs.lemmas.List.Sums.{sum_by-cons}
+use Rattle.pm_perm.specs.Lists.{Stands, StandsAt}
+
+-- the entries with this key, as they come
+abbrev pub with_key : (ℕ → ℕ) → ℕ → List ℕ → List ℕ
+with_key key k entries = filter (λ entry. key entry == k) entries
+
+with_key_yes : (key : ℕ → ℕ) (k entry : ℕ) (entries : List ℕ) → key entry ≡ k → with_key key k (entry ∷ entries) ≡ entry ∷ with_key key k entries
+with_key_yes key k entry entries e = rw (eq-eqb (key entry) k e) refl
+
+with_key_no : (key : ℕ → ℕ) (k entry : ℕ) (entries : List ℕ) → (key entry ≡ k → ⊥) → with_key key k (entry ∷ entries) ≡ with_key key k entries
+with_key_no key k entry entries n = rw (ne_eqb (key entry) k n) refl
+
+pub one_sorting : (key : ℕ → ℕ) (xs ys : List ℕ) → map key xs ≡ map key ys → ((k : ℕ) → with_key key k xs ≡ with_key key k ys) → xs ≡ ys
+one_sorting key [] [] e same = refl
+one_sorting key [] (y ∷ ys) e same = absurd cc
+one_sorting key (x ∷ xs) [] e same = absurd cc
+one_sorting key (x ∷ xs) (y ∷ ys) e same =
+    let keys : key x ≡ key y = cc in
+    let rest : map key xs ≡ map key ys = cc in
+    let here : x ∷ with_key key (key x) xs ≡ y ∷ with_key key (key x) ys = sym (with_key_yes key (key x) x xs refl) ∙ same (key x) ∙ with_key_yes key (key x) y ys (sym keys) in
+    let heads : x ≡ y = cc in
+    let tails : with_key key (key x) xs ≡ with_key key (key x) ys = cc in
+    let later = one_sorting key xs ys rest (λ k. elim (cases_eq (key x) k) [
+      | inl is ↦ subst (λ (n : ℕ). with_key key n xs ≡ with_key key n ys) is tails
+      | inr other ↦ sym (with_key_no key k x xs other) ∙ same k ∙ with_key_no key k y ys (λ f. other (keys ∙ f))
+    ]) in
+    cc
+
+-- a list with these keys, and these entries of each key
+pub record IsSorting (key : ℕ → ℕ) (keys : List ℕ) (lists : ℕ → List ℕ) (entries : List ℕ) : Type 0 where
+  pub keys_are : map key entries ≡ keys
+  pub lists_are : (k : ℕ) → with_key key k entries ≡ lists k
+
+-- the lists, with another one for one key
+instead : (ℕ → List ℕ) → ℕ → List ℕ → ℕ → List ℕ
+instead lists k list n = cond (n == k) list (lists n)
+
+instead_here : (lists : ℕ → List ℕ) (k : ℕ) (list : List ℕ) (n : ℕ) → n ≡ k → instead lists k list n ≡ list
+unfolding instead
+instead_here lists k list n e = rw (eq-eqb n k e) refl
+
+instead_other : (lists : ℕ → List ℕ) (k : ℕ) (list : List ℕ) (n : ℕ) → (n ≡ k → ⊥) → instead lists k list n ≡ lists n
+unfolding instead
+instead_other lists k list n apart = rw (ne_eqb n k apart) refl
+
+count_yes : (k x : ℕ) (xs : List ℕ) → x ≡ k → count_by (λ y. y == k) (x ∷ xs) ≡ suc (count_by (λ y. y == k) xs)
+count_yes k x xs e =
+    let a = sum_by-cons (λ (y : ℕ). cond (y == k) 1 0) x xs in
+    let b : cond {A = ℕ} (x == k) 1 0 ≡ 1 = rw (eq-eqb x k e) refl in
+    omega (arith, a, b)
+
+count_no : (k x : ℕ) (xs : List ℕ) → (x ≡ k → ⊥) → count_by (λ y. y == k) (x ∷ xs) ≡ count_by (λ y. y == k) xs
+count_no k x xs n =
+    let a = sum_by-cons (λ (y : ℕ). cond (y == k) 1 0) x xs in
+    let b : cond {A = ℕ} (x == k) 1 0 ≡ 0 = rw (ne_eqb x k n) refl in
+    omega (arith, a, b)
+
+some_entry : (list : List ℕ) → 0 < length list → (first : ℕ) × (later : List ℕ) × (list ≡ first ∷ later)
+some_entry [] some = absurd (omega arith)
+some_entry (first ∷ later) some = (first, later, refl)
+
+pub sorting_exists : (key : ℕ → ℕ) (keys : List ℕ) (lists : ℕ → List ℕ) → ((k : ℕ) → length (lists k) ≡ count_by (λ y. y == k) keys) → ((k : ℕ) → All (λ entry. key entry ≡ k) (lists k))
+    → (entries : List ℕ) × IsSorting key keys lists entries
+sorting_exists key [] lists long each = ([], record { keys_are = refl; lists_are = λ k. sym (nil_from_length (lists k) (long k)) })
+sorting_exists key (k ∷ keys) lists long each =
+    let counted = count_yes k k keys refl in
+    let some = some_entry (lists k) (let l = long k in omega (arith, l, counted)) in
+    let first : ℕ = some.0 in
+    let others : ℕ → List ℕ = instead lists k some.1 in
+    let all : All (λ entry. key entry ≡ k) (some.0 ∷ some.1) = subst (λ (list : List ℕ). All (λ entry. key entry ≡ k) list) some.2 (each k) in
+    let key_is : key some.0 ≡ k = All-head (λ entry. key entry ≡ k) some.0 some.1 all in
+    let h = sorting_exists key keys (instead lists k some.1)
+    (λ n. elim (cases_eq n k) [
+      | inl is ↦
+          let a = ap length (instead_here lists k some.1 n is) in
+          let b = ap length some.2 in
+          let c = long k in
+          let d = ap (λ (m : ℕ). count_by (λ y. y == m) keys) is in
+          omega (arith, a, b, c, d, counted)
+      | inr apart ↦
+          let a = ap length (instead_other lists k some.1 n apart) in
+          let b = long n in
+          let c = count_no n k keys (λ e. apart (sym e)) in
+          omega (arith, a, b, c)
+    ])
+    (λ n. elim (cases_eq n k) [
+      | inl is ↦ subst (λ (list : List ℕ). All (λ entry. key entry ≡ n) list) (sym (instead_here lists k some.1 n is))
+          (subst (λ (m : ℕ). All (λ entry. key entry ≡ m) some.1) (sym is) (All-tail (λ entry. key entry ≡ k) some.0 some.1 all))
+      | inr apart ↦ subst (λ (list : List ℕ). All (λ entry. key entry ≡ n) list) (sym (instead_other lists k some.1 n apart)) (each n)
+    ]) in (
+      some.0 ∷ h.0,
+      record {
+        keys_are = let r = h.1.keys_are in cc;
+        lists_are = λ n. elim (cases_eq n k) [
+          | inl is ↦
+              with_key_yes key n some.0 h.0 (key_is ∙ sym is) ∙ ap (λ (list : List ℕ). some.0 ∷ list) (h.1.lists_are n ∙ instead_here lists k some.1 n is) ∙ sym some.2 ∙ ap lists (sym is)
+          | inr apart ↦ with_key_no key n some.0 h.0 (λ e. apart (sym e ∙ key_is)) ∙ h.1.lists_are n ∙ instead_other lists k some.1 n apart
+        ];
+      },
+    )
+
+-- what stands in the rest stands in the list
+stands_later : (x n : ℕ) (xs : List ℕ) → Stands xs n → Stands (x ∷ xs) n
+stands_later x n xs s = (suc s.0, record { within = let w = s.1.within in omega (arith, w); here = s.1.here })
+
+stands_first : (x n : ℕ) (xs : List ℕ) → x ≡ n → Stands (x ∷ xs) n
+stands_first x n xs e = (0, record { within = omega arith; here = e })
+
+-- the first entry, or another one
+stands_cases : (x n : ℕ) (xs : List ℕ) → Stands (x ∷ xs) n → (x ≡ n) ⊎ Stands xs n
+stands_cases x n xs s = by_place s.0 s.1.within s.1.here where
+  by_place : (place : ℕ) → place < length (x ∷ xs) → slice_index (x ∷ xs) place ≡ n → (x ≡ n) ⊎ Stands xs n
+  by_place zero within here = inl here
+  by_place (suc place) within here = inr (place, record { within = omega (arith, within); here = here })
+
+filter_true : (p : ℕ → Bool) (x : ℕ) (xs : List ℕ) → p x ≡ true → filter p (x ∷ xs) ≡ x ∷ filter p xs
+filter_true p x xs e = rw e refl
+
+filter_false : (p : ℕ → Bool) (x : ℕ) (xs : List ℕ) → p x ≡ false → filter p (x ∷ xs) ≡ filter p xs
+filter_false p x xs e = rw e refl
+
+pub stands_kept : (p : ℕ → Bool) (xs : List ℕ) (n : ℕ) → Stands xs n → p n ≡ true → Stands (filter p xs) n
+stands_kept p [] n s passes = s
+stands_kept p (x ∷ xs) n s passes = elim (cases_Bool (p x)) [
+  | inl kept ↦ subst (λ (list : List ℕ). Stands list n) (sym (filter_true p x xs kept)) (elim (stands_cases x n xs s) [
+    | inl here ↦ stands_first x n (filter p xs) here
+    | inr later ↦ stands_later x n (filter p xs) (stands_kept p xs n later passes)
+  ])
+  | inr dropped ↦ subst (λ (list : List ℕ). Stands list n) (sym (filter_false p x xs dropped)) (elim (stands_cases x n xs s) [
+    | inl here ↦ (let t : true ≡ false = sym passes ∙ ap p (sym here) ∙ dropped in cc)
+    | inr later ↦ stands_kept p xs n later passes
+  ])
+]
+
+pub stands_before : (p : ℕ → Bool) (xs : List ℕ) (n : ℕ) → Stands (filter p xs) n → Stands xs n
+stands_before p [] n s = s
+stands_before p (x ∷ xs) n s = elim (cases_Bool (p x)) [
+  | inl kept ↦ elim (stands_cases x n (filter p xs) (subst (λ (list : List ℕ). Stands list n) (filter_true p x xs kept) s)) [
+    | inl here ↦ stands_first x n xs here
+    | inr later ↦ stands_later x n xs (stands_before p xs n later)
+  ]
+  | inr dropped ↦ stands_later x n xs (stands_before p xs n (subst (λ (list : List ℕ). Stands list n) (filter_false p x xs dropped) s))
+]
+
+-- a sum over the entries that are kept
+pub sum_by-kept : (f : ℕ → ℕ) (p : ℕ → Bool) (xs : List ℕ) → sum_by f (filter p xs) ≡ sum_by (λ x. cond (p x) (f x) 0) xs
+sum_by-kept f p [] = refl
+sum_by-kept f p (x ∷ xs) =
+    let h = sum_by-kept f p xs in
+    let a = sum_by-cons (λ (x : ℕ). cond (p x) (f x) 0) x xs in
+    elim (cases_Bool (p x)) [
+      | inl kept ↦
+          let b = ap (sum_by f) (filter_true p x xs kept) in
+          let c = sum_by-cons f x (filter p xs) in
+          let d : cond {A = ℕ} (p x) (f x) 0 ≡ f x = rw kept refl in
+          omega (arith, a, b, c, d, h)
+      | inr dropped ↦
+          let b = ap (sum_by f) (filter_false p x xs dropped) in
+          let d : cond {A = ℕ} (p x) (f x) 0 ≡ 0 = rw dropped refl in
+          omega (arith, a, b, d, h)
+    ]
