@@ -149,13 +149,13 @@ free_is_valid pairs choices valid =
     omega (arith, choice_of_free pairs, valid.below (suc (edges_of pairs) + nodes_of_profile pairs) (omega arith))
 
 -- valid lists one after another
-valid_cons : (value bound : ℕ) (values bounds : List ℕ) → value < bound → IsValidList values bounds → IsValidList (value ∷ values) (bound ∷ bounds)
+pub valid_cons : (value bound : ℕ) (values bounds : List ℕ) → value < bound → IsValidList values bounds → IsValidList (value ∷ values) (bound ∷ bounds)
 valid_cons value bound values bounds low valid = record { as_long = ap suc valid.as_long; below = each } where
   each : (place : ℕ) → place < suc (length values) → slice_index (value ∷ values) place < slice_index (bound ∷ bounds) place
   each zero less = low
   each (suc k) less = valid.below k (omega arith)
 
-valid_append : (values more bounds others : List ℕ) → IsValidList values bounds → IsValidList more others → IsValidList (values ++ more) (bounds ++ others)
+pub valid_append : (values more bounds others : List ℕ) → IsValidList values bounds → IsValidList more others → IsValidList (values ++ more) (bounds ++ others)
 valid_append [] more [] others first second = second
 valid_append [] more (bound ∷ bounds) others first second = absurd (let e = first.as_long in omega arith)
 valid_append (value ∷ values) more [] others first second = absurd (let e = first.as_long in omega arith)

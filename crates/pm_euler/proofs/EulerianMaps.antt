@@ -22,7 +22,7 @@ use Rattle.pm_euler.specs.Eulerian.{IsEulerianAnswer}
 use Rattle.pm_euler.specs.Sampling.{IsSizeWhereAnswered, HasOneAnswer}
 
 -- the pair with a degree, or there is none
-find_pair : (pairs : List (ℕ × ℕ)) (degree n : ℕ) → ((k : ℕ) × (k < n) × ((pair_at pairs k).0 ≡ degree)) ⊎ ((k : ℕ) → k < n → (pair_at pairs k).0 ≢ degree)
+pub find_pair : (pairs : List (ℕ × ℕ)) (degree n : ℕ) → ((k : ℕ) × (k < n) × ((pair_at pairs k).0 ≡ degree)) ⊎ ((k : ℕ) → k < n → (pair_at pairs k).0 ≢ degree)
 find_pair pairs degree zero = inr (λ k less. absurd (omega arith))
 find_pair pairs degree (suc n) = elim (cases_eq (pair_at pairs n).0 degree) [
   | inl here ↦ inl (n, omega arith, here)

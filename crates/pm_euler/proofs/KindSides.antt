@@ -18,6 +18,7 @@ use Rattle.pm_euler.specs.PlanePlanted.{AreSides}
 use Rattle.pm_euler.specs.PlanePlanted.AreSides.{none as no_sides, leaf as leaf_side, node as node_side}
 use Rattle.pm_euler.specs.Kinds.{AreSidesOfKinds, IsWordOfKinds, kind_of, kinds_of}
 use Rattle.pm_euler.specs.Kinds.AreSidesOfKinds.{none, leaf, node}
+use Rattle.pm_euler.proofs.PlaneTexts.{half_degrees}
 use Rattle.pm_euler.proofs.SideReading.{halves_in}
 
 -- the kind of an object
@@ -27,7 +28,7 @@ kind_leaf halves ranks object e =
     let r : (if half_of halves object == 0 then 0 else slice_index_or ranks object 0) ≡ 0 = rw b refl in
     cc
 
-kind_node : (halves ranks : List ℕ) (object : ℕ) → 0 < half_of halves object → kind_of halves ranks object ≡ (half_of halves object, slice_index_or ranks object 0)
+pub kind_node : (halves ranks : List ℕ) (object : ℕ) → 0 < half_of halves object → kind_of halves ranks object ≡ (half_of halves object, slice_index_or ranks object 0)
 kind_node halves ranks object some =
     let b = ne_eqb (half_of halves object) 0 (λ e. omega (arith, e, some)) in
     let r : (if half_of halves object == 0 then 0 else slice_index_or ranks object 0) ≡ slice_index_or ranks object 0 = rw b refl in
@@ -147,3 +148,7 @@ kinds_each _ _ none = All-nil IsKind
 kinds_each _ _ (leaf later texts h) = All-cons IsKind (0, 0) later (of_leaf refl) (kinds_each later texts h)
 kinds_each _ _ (node half rank under later pattern sides texts s p h l k) =
     All-cons IsKind (half, rank) (under ++ later) (of_node s ((patterns_ranked half s).below pattern rank p)) (All-append IsKind under later (kinds_each under sides h) (kinds_each later texts k))
+
+pub halves_in_kinds : (halves ranks objects : List ℕ) → halves_in (kinds_of halves ranks objects) ≡ half_degrees halves objects
+halves_in_kinds halves ranks [] = refl
+halves_in_kinds halves ranks (object ∷ objects) = ap (λ (hs : List ℕ). half_of halves object ∷ hs) (halves_in_kinds halves ranks objects)

@@ -4,7 +4,9 @@ pub mod ClosedMaps
 pub mod EntryTexts
 pub mod EulerianBounds
 pub mod EulerianChoices
+pub mod EulerianLists
 pub mod EulerianMaps
+pub mod EulerianParts
 pub mod EulerianSamples
 pub mod FilledRows
 pub mod FreeLeaves

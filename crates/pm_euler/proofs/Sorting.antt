@@ -1,12 +1,13 @@
 -- A list is told by the keys of its entries and, for each key, by the entries with it in their order.
-use Rattle.std.proofs.Common.{◌≡◌, ◌⊎◌, ℕ, zero, suc, ◌+◌, ◌<◌, ◌==◌, Bool, true, false, cond, inl, inr, List, [], ◌∷◌, length, map, filter, All, refl, ap, sym, ◌∙◌, subst, arith, eq-eqb, ne_eqb}
+use Rattle.std.proofs.Common.{◌≡◌, ◌⊎◌, ℕ, zero, suc, ◌<◌, ◌==◌, Bool, true, false, cond, inl, inr, List, [], ◌∷◌, ◌++◌, take, drop, take-append-drop, length, map, filter, All, refl, ap, sym, ◌∙◌, subst, arith, eq-eqb, ne_eqb}
 use Rattle.std.specs.Prelude.{count_by, slice_index}
 use Rattle.std.specs.List.{sum_by}
 use Rattle.std.proofs.lemmas.Bool.{cases_eq, cases_Bool}
 use Rattle.std.proofs.lemmas.List.{nil_from_length}
-use Rattle.std.proofs.lemmas.List.Elements.{All-head, All-tail, All-cons, All-nil}
+use Rattle.std.proofs.lemmas.List.Elements.{All-head, All-tail}
 use Rattle.std.proofs.lemmas.List.Sums.{sum_by-cons}
-use Rattle.pm_perm.specs.Lists.{Stands, StandsAt}
+use Rattle.pm_perm.specs.Lists.{Stands}
+use Rattle.pm_words.specs.Word.{turned}
 
 -- the entries with this key, as they come
 abbrev pub with_key : (ℕ → ℕ) → ℕ → List ℕ → List ℕ
@@ -167,3 +168,29 @@ sum_by-kept f p (x ∷ xs) =
           let d : cond {A = ℕ} (p x) (f x) 0 ≡ 0 = rw dropped refl in
           omega (arith, a, b, d, h)
     ]
+
+-- what stands in one of two lists stands in both together
+stands_front : (xs ys : List ℕ) (n : ℕ) → Stands xs n → Stands (xs ++ ys) n
+stands_front [] ys n s = absurd (let w = s.1.within in omega (arith, w))
+stands_front (x ∷ xs) ys n s = elim (stands_cases x n xs s) [
+  | inl here ↦ stands_first x n (xs ++ ys) here
+  | inr later ↦ stands_later x n (xs ++ ys) (stands_front xs ys n later)
+]
+
+stands_back : (xs ys : List ℕ) (n : ℕ) → Stands ys n → Stands (xs ++ ys) n
+stands_back [] ys n s = s
+stands_back (x ∷ xs) ys n s = stands_later x n (xs ++ ys) (stands_back xs ys n s)
+
+stands_in_one : (xs ys : List ℕ) (n : ℕ) → Stands (xs ++ ys) n → Stands xs n ⊎ Stands ys n
+stands_in_one [] ys n s = inr s
+stands_in_one (x ∷ xs) ys n s = elim (stands_cases x n (xs ++ ys) s) [
+  | inl here ↦ inl (stands_first x n xs here)
+  | inr later ↦ elim (stands_in_one xs ys n later) [ inl a ↦ inl (stands_later x n xs a) | inr b ↦ inr b ]
+]
+
+-- a list that is turned has the same entries
+pub stands_turned : (start : ℕ) (xs : List ℕ) (n : ℕ) → Stands xs n → Stands (turned start xs) n
+stands_turned start xs n s = elim (stands_in_one (take start xs) (drop start xs) n (subst (λ (list : List ℕ). Stands list n) (sym (take-append-drop start xs)) s)) [
+  | inl front ↦ stands_back (drop start xs) (take start xs) n front
+  | inr back ↦ stands_front (drop start xs) (take start xs) n back
+]
