@@ -22,7 +22,7 @@ use Rattle.pm_euler.proofs.PlaneTexts.{half_degrees}
 use Rattle.pm_euler.proofs.SideReading.{halves_in}
 
 -- the kind of an object
-kind_leaf : (halves ranks : List ℕ) (object : ℕ) → half_of halves object ≡ 0 → kind_of halves ranks object ≡ (0, 0)
+pub kind_leaf : (halves ranks : List ℕ) (object : ℕ) → half_of halves object ≡ 0 → kind_of halves ranks object ≡ (0, 0)
 kind_leaf halves ranks object e =
     let b = eq-eqb (half_of halves object) 0 e in
     let r : (if half_of halves object == 0 then 0 else slice_index_or ranks object 0) ≡ 0 = rw b refl in

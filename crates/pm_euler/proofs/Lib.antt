@@ -8,6 +8,7 @@ pub mod EulerianLists
 pub mod EulerianMaps
 pub mod EulerianParts
 pub mod EulerianSamples
+pub mod EulerianTrees
 pub mod FilledRows
 pub mod FreeLeaves
 pub mod KindSides
@@ -31,6 +32,7 @@ pub mod QuarticSamples
 pub mod QuarticUnsampled
 pub mod RootRows
 pub mod Rows
+pub mod SameCounts
 pub mod SameSides
 pub mod SidePatterns
 pub mod SideReading

@@ -52,13 +52,13 @@ instead_other : (lists : ℕ → List ℕ) (k : ℕ) (list : List ℕ) (n : ℕ)
 unfolding instead
 instead_other lists k list n apart = rw (ne_eqb n k apart) refl
 
-count_yes : (k x : ℕ) (xs : List ℕ) → x ≡ k → count_by (λ y. y == k) (x ∷ xs) ≡ suc (count_by (λ y. y == k) xs)
+pub count_yes : (k x : ℕ) (xs : List ℕ) → x ≡ k → count_by (λ y. y == k) (x ∷ xs) ≡ suc (count_by (λ y. y == k) xs)
 count_yes k x xs e =
     let a = sum_by-cons (λ (y : ℕ). cond (y == k) 1 0) x xs in
     let b : cond {A = ℕ} (x == k) 1 0 ≡ 1 = rw (eq-eqb x k e) refl in
     omega (arith, a, b)
 
-count_no : (k x : ℕ) (xs : List ℕ) → (x ≡ k → ⊥) → count_by (λ y. y == k) (x ∷ xs) ≡ count_by (λ y. y == k) xs
+pub count_no : (k x : ℕ) (xs : List ℕ) → (x ≡ k → ⊥) → count_by (λ y. y == k) (x ∷ xs) ≡ count_by (λ y. y == k) xs
 count_no k x xs n =
     let a = sum_by-cons (λ (y : ℕ). cond (y == k) 1 0) x xs in
     let b : cond {A = ℕ} (x == k) 1 0 ≡ 0 = rw (ne_eqb x k n) refl in
