@@ -165,7 +165,7 @@ valid_append (value ∷ values) more (bound ∷ bounds) others first second =
     (valid_append values more bounds others (record { as_long = omega arith; below = λ k less. first.below (suc k) (omega arith) }) second)
 
 -- a code is valid for the bounds of its length
-valid_code : (n : ℕ) (entries : List ℕ) → length entries ≡ n → IsValidList (code_of entries) (code_bounds n)
+pub valid_code : (n : ℕ) (entries : List ℕ) → length entries ≡ n → IsValidList (code_of entries) (code_bounds n)
 valid_code n entries long =
     let same = length-code_of entries in
     let is = code_of-is_code entries in

@@ -6,7 +6,7 @@ use Rattle.pm_limits.specs.declared.TheConstants.{MAX_DEGREE}
 use Rattle.pm_map.specs.Structure.{Structure, IsStructure}
 use Rattle.pm_map.specs.Rotation.{RotationSystem, structure_of, IsRootedMap}
 use Rattle.pm_map.specs.Classes.{IsEulerian, HasDegrees, degree_of, vertices_of_degree}
-use Rattle.pm_map.specs.ClassRules.{AllAdmitted, IsLeastOther}
+use Rattle.pm_map.specs.ClassRules.{HasAdmittedDegree, AllAdmitted, IsLeastOther}
 use Rattle.pm_map.specs.DegreeTable.{AreVertexCounts}
 use Rattle.pm_map.specs.declared.admitted.Degrees.TheVariants.{EvenUpTo}
 use Rattle.pm_map.specs.declared.class_refusal.ClassRefusal.TheVariants.{Memory, Empty, TooMany, Vertex, Face, Loop, Double}
@@ -139,18 +139,21 @@ profile_of_table m table pairs rooted darts admitted t l =
 pub eulerian_where_answered : IsSizeWhereAnswered IsProfile (λ pairs m. IsEulerian (structure_of m) pairs) IsEulerianAnswer
 eulerian_where_answered m pairs rooted = (λ is. is, λ both. both)
 
--- no map with a profile has a dart whose vertex has another degree
-not_other : (m : RotationSystem) (pairs : List (ℕ × ℕ)) (dart : ℕ) → IsRootedMap m → IsProfile pairs → IsEulerian (structure_of m) pairs → IsLeastOther (structure_of m) (EvenUpTo MAX_DEGREE) dart → ⊥
-not_other m pairs dart rooted profile is other =
-    let s : Structure = structure_of m in
+-- each dart of a map with a profile has an admitted degree
+pub profile_admits : (m : RotationSystem) (pairs : List (ℕ × ℕ)) (dart : ℕ) → IsRootedMap m → IsProfile pairs → IsEulerian (structure_of m) pairs → dart < length m.sigma → HasAdmittedDegree (structure_of m) (EvenUpTo MAX_DEGREE) dart
+profile_admits m pairs dart rooted profile is within =
     let structure = rooted.structure in
-    let size : HasSize (slice_index m.sigma) dart = has_size (length m.sigma) (slice_index m.sigma) dart structure.rotation other.within in
-    let degree = (degree_counts_darts (structure_of m) dart size.size structure other.within).0 size.is in
-    let taken = dart_takes (structure_of m) dart structure other.within in
+    let size : HasSize (slice_index m.sigma) dart = has_size (length m.sigma) (slice_index m.sigma) dart structure.rotation within in
+    let degree = (degree_counts_darts (structure_of m) dart size.size structure within).0 size.is in
+    let taken = dart_takes (structure_of m) dart structure within in
     let found = (counted_of_degrees (structure_of m) pairs profile is.degrees).all (degree_of (structure_of m) dart) taken in
     let right = profile.are_pairs.right found.0 found.1 in
     let same : (pair_at pairs found.0).0 ≡ size.size = found.2 ∙ degree in
-    other.breaks (record { degree = size.size; counted = size.is; admitted = (subst (λ (n : ℕ). n % 2 ≡ 0) same right.even, subst (λ (n : ℕ). n ≤ MAX_DEGREE) same right.few) })
+    record { degree = size.size; counted = size.is; admitted = (subst (λ (n : ℕ). n % 2 ≡ 0) same right.even, subst (λ (n : ℕ). n ≤ MAX_DEGREE) same right.few) }
+
+-- so none has another degree
+not_other : (m : RotationSystem) (pairs : List (ℕ × ℕ)) (dart : ℕ) → IsRootedMap m → IsProfile pairs → IsEulerian (structure_of m) pairs → IsLeastOther (structure_of m) (EvenUpTo MAX_DEGREE) dart → ⊥
+not_other m pairs dart rooted profile is other = other.breaks (profile_admits m pairs dart rooted profile is other.within)
 
 one_other : (s : Structure) (a b : ℕ) → IsLeastOther s (EvenUpTo MAX_DEGREE) a → IsLeastOther s (EvenUpTo MAX_DEGREE) b → a ≡ b
 one_other s a b x y = elim (cases_order a b) [
@@ -159,7 +162,7 @@ one_other s a b x y = elim (cases_order a b) [
 ]
 
 -- a map with a profile has darts
-with_profile : (m : RotationSystem) (pairs : List (ℕ × ℕ)) → IsProfile pairs → IsEulerian (structure_of m) pairs → length m.sigma ≡ 0 → ⊥
+pub with_profile : (m : RotationSystem) (pairs : List (ℕ × ℕ)) → IsProfile pairs → IsEulerian (structure_of m) pairs → length m.sigma ≡ 0 → ⊥
 with_profile m pairs profile is none =
     let taken = one_vertex (structure_of m) none in
     let found = (counted_of_degrees (structure_of m) pairs profile is.degrees).all 0 (omega (arith, taken)) in

@@ -11,9 +11,11 @@ pub mod EulerianSamples
 pub mod EulerianTrees
 pub mod FilledRows
 pub mod FreeLeaves
+pub mod HalfCodes
 pub mod KindSides
 pub mod ObjectLemmas
 pub mod ObjectSums
+pub mod ObjectsFound
 pub mod OneSample
 pub mod OneUnplanting
 pub mod PlaneLaws

@@ -41,14 +41,14 @@ pub record IsSorting (key : ℕ → ℕ) (keys : List ℕ) (lists : ℕ → List
   pub lists_are : (k : ℕ) → with_key key k entries ≡ lists k
 
 -- the lists, with another one for one key
-instead : (ℕ → List ℕ) → ℕ → List ℕ → ℕ → List ℕ
+pub instead : (ℕ → List ℕ) → ℕ → List ℕ → ℕ → List ℕ
 instead lists k list n = cond (n == k) list (lists n)
 
-instead_here : (lists : ℕ → List ℕ) (k : ℕ) (list : List ℕ) (n : ℕ) → n ≡ k → instead lists k list n ≡ list
+pub instead_here : (lists : ℕ → List ℕ) (k : ℕ) (list : List ℕ) (n : ℕ) → n ≡ k → instead lists k list n ≡ list
 unfolding instead
 instead_here lists k list n e = rw (eq-eqb n k e) refl
 
-instead_other : (lists : ℕ → List ℕ) (k : ℕ) (list : List ℕ) (n : ℕ) → (n ≡ k → ⊥) → instead lists k list n ≡ lists n
+pub instead_other : (lists : ℕ → List ℕ) (k : ℕ) (list : List ℕ) (n : ℕ) → (n ≡ k → ⊥) → instead lists k list n ≡ lists n
 unfolding instead
 instead_other lists k list n apart = rw (ne_eqb n k apart) refl
 
