@@ -1,8 +1,8 @@
 -- A blossoming tree with as many nodes of each degree as a profile says has as many objects of each half degree as the profile
 -- has.
-use Rattle.std.proofs.Common.{◌≡◌, ℕ, zero, suc, ◌+◌, ◌-◌, ◌*◌, ◌/◌, ◌<◌, ◌≤◌, ◌==◌, inl, inr, List, [], ◌∷◌, ◌++◌, length, map, get_or, drop, take, refl, ap, sym, ◌∙◌, subst, arith, append-nil}
+use Rattle.std.proofs.Common.{◌≡◌, ℕ, suc, ◌*◌, ◌/◌, ◌<◌, ◌==◌, inl, inr, List, [], ◌∷◌, ◌++◌, length, map, get_or, refl, ap, sym, ◌∙◌, arith, append-nil}
 use Rattle.std.specs.Prelude.{count_by, sum}
-use Rattle.std.specs.List.{range_with_len, sum_by}
+use Rattle.std.specs.List.{range_with_len}
 use Rattle.std.proofs.lemmas.Bool.{cases_eq}
 use Rattle.std.proofs.lemmas.List.{length-map, get_or-map}
 use Rattle.std.proofs.lemmas.List.FromFn.{length-range_with_len, get_or-range_with_len, fill_by_all}
@@ -14,9 +14,8 @@ use Rattle.pm_trees.specs.Degrees.{nodes_of}
 use Rattle.pm_trees.specs.Pairs.{IsProfile, edges_of, pair_at}
 use Rattle.pm_map.specs.Structure.{Structure}
 use Rattle.pm_map.specs.Classes.{HasDegrees, vertices_of_degree}
-use Rattle.pm_words.specs.Word.{turned}
 use Rattle.pm_euler.specs.Kinds.{IsWordOfKinds, kind_of, kinds_of}
-use Rattle.pm_euler.specs.Objects.{half_of, halves_of, nodes_of_profile}
+use Rattle.pm_euler.specs.Objects.{half_of, halves_of}
 use Rattle.pm_euler.specs.PlanePlanted.{IsPlantedPlane}
 use Rattle.pm_euler.proofs.EulerianMaps.{counted_of_degrees}
 use Rattle.pm_euler.proofs.KindSides.{IsKind, of_leaf, of_node, kind_leaf, kind_node, kinds_each, kinds_sides, kinds_long, halves_in_kinds}
@@ -52,7 +51,7 @@ all_objects pairs is =
 ranks_in : List (ℕ × ℕ) → List ℕ
 ranks_in kinds = map (λ (kind : ℕ × ℕ). kind.1) kinds
 
-same_pair : (p q : ℕ × ℕ) → p.0 ≡ q.0 → p.1 ≡ q.1 → p ≡ q
+pub same_pair : (p q : ℕ × ℕ) → p.0 ≡ q.0 → p.1 ≡ q.1 → p ≡ q
 same_pair p q first second = ap {B = ℕ × ℕ} (λ a. (a, p.1)) first ∙ ap {B = ℕ × ℕ} (λ b. (q.0, b)) second
 
 kind_at : (kinds : List (ℕ × ℕ)) (k : ℕ) → k < length kinds → IsKind (get_or kinds k (0, 0)) → get_or kinds k (0, 0) ≡ kind_of (halves_in kinds) (ranks_in kinds) k

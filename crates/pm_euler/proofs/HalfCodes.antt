@@ -1,7 +1,6 @@
 -- The codes by degree: an arrangement code for each half degree.
-use Rattle.std.proofs.Common.{◌≡◌, ℕ, zero, suc, ◌+◌, ◌-◌, ◌/◌, ◌<◌, inl, inr, List, [], ◌∷◌, ◌++◌, length, refl, ap, ap₂, sym, ◌∙◌, subst, arith, append_assoc}
-use Rattle.std.specs.Prelude.{flat_map, slice_index}
-use Rattle.std.proofs.lemmas.Bool.{cases_eq}
+use Rattle.std.proofs.Common.{◌≡◌, ℕ, zero, suc, ◌/◌, ◌<◌, List, [], ◌∷◌, ◌++◌, length, refl, ap, ap₂, sym, ◌∙◌, subst, arith, append_assoc}
+use Rattle.std.specs.Prelude.{flat_map}
 use Rattle.pm_lists.specs.Valid.{IsValidList}
 use Rattle.pm_lehmer.specs.Lehmer.{IsArrangementCode}
 use Rattle.pm_trees.specs.Pairs.{pair_at}

@@ -6,6 +6,7 @@ pub mod EulerianBounds
 pub mod EulerianChoices
 pub mod EulerianLists
 pub mod EulerianMaps
+pub mod EulerianPairs
 pub mod EulerianParts
 pub mod EulerianSamples
 pub mod EulerianTrees

@@ -177,7 +177,7 @@ degrees_rise pairs j (suc k) are before less =
       | inr apart ↦ (let h = degrees_rise pairs j k are (omega arith) (omega arith) in omega (arith, h, r.rising))
     ]
 
-half_differs : (pairs : List (ℕ × ℕ)) (j k : ℕ) → ArePairs pairs → j < length pairs → k < length pairs → (j ≡ k → ⊥) → (pair_at pairs j).0 / 2 ≡ (pair_at pairs k).0 / 2 → ⊥
+pub half_differs : (pairs : List (ℕ × ℕ)) (j k : ℕ) → ArePairs pairs → j < length pairs → k < length pairs → (j ≡ k → ⊥) → (pair_at pairs j).0 / 2 ≡ (pair_at pairs k).0 / 2 → ⊥
 half_differs pairs j k are in_j in_k apart same =
     let a = are.right j in_j in
     let b = are.right k in_k in

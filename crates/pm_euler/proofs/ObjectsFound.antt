@@ -1,7 +1,6 @@
 -- The objects of a profile with given half degrees in preorder and given codes by degree.
-use Rattle.std.proofs.Common.{◌≡◌, ℕ, zero, suc, ◌+◌, ◌-◌, ◌*◌, ◌/◌, ◌<◌, ◌≤◌, ◌==◌, Bool, true, inl, inr, List, [], ◌∷◌, ◌++◌, length, map, filter, get_or, All, drop, take, refl, ap, ap₂, sym, ◌∙◌, subst, arith, length-append, length-drop, length-take, take-append-drop, eq-eqb, eqb-true}
-use Rattle.std.specs.Prelude.{count_by, flat_map, slice_index}
-use Rattle.std.specs.List.{range_with_len}
+use Rattle.std.proofs.Common.{◌≡◌, ℕ, suc, ◌+◌, ◌-◌, ◌*◌, ◌/◌, ◌<◌, ◌≤◌, ◌==◌, Bool, inl, inr, List, [], ◌++◌, length, map, filter, get_or, All, drop, take, refl, ap, ap₂, sym, ◌∙◌, subst, arith, length-append, length-drop, take-append-drop, eq-eqb, eqb-true}
+use Rattle.std.specs.Prelude.{count_by, slice_index}
 use Rattle.std.specs.List.Sorted.{IsStrictlyIncreasing}
 use Rattle.std.proofs.lemmas.Bool.{cases_eq}
 use Rattle.std.proofs.lemmas.List.{length-map, get_or-map, get_or_default, take_at, drop_at, length-take-le}
@@ -13,7 +12,7 @@ use Rattle.pm_perm.specs.Lists.{Stands}
 use Rattle.pm_perm.specs.Permutation.{IsPermutationList}
 use Rattle.pm_perm.proofs.InverseLemmas.{standing_permutes}
 use Rattle.pm_perm.proofs.Permutations.{reached}
-use Rattle.pm_lehmer.specs.Lehmer.{code_of, IsArrangementCode, IsArrangementOf}
+use Rattle.pm_lehmer.specs.Lehmer.{code_of, IsArrangementOf}
 use Rattle.pm_lehmer.proofs.Arranged.{has_arrangement, length-arrangement}
 use Rattle.pm_lehmer.proofs.Rising.{Rises, code_of-rising}
 use Rattle.pm_trees.specs.Pairs.{IsProfile, edges_of, pair_at}
@@ -160,11 +159,13 @@ module _ (pairs : List (ℕ × ℕ)) (is : IsProfile pairs) (halves : List ℕ) 
   in_list half object stands =
       let at = reached (slice_index (order half)) (length (order half)) stands.0 (order_is half).is_permutation (let w = stands.1.within in omega (arith, w, order_long half)) in
       let here = stands.1.here in
-      subst (λ (objects : List ℕ). Stands objects object) (sym (list_is half))
-      (at.from, record {
-        within = let long = length-map (order half) (slice_index (block half)) in let b = at.below in omega (arith, long, b);
-        here = get_or-map (slice_index (block half)) (order half) at.from 0 0 at.below ∙ ap (slice_index (block half)) at.value ∙ here;
-      })
+      subst (λ (objects : List ℕ). Stands objects object) (sym (list_is half)) (
+        at.from,
+        record {
+          within = let long = length-map (order half) (slice_index (block half)) in let b = at.below in omega (arith, long, b);
+          here = get_or-map (slice_index (block half)) (order half) at.from 0 0 at.below ∙ ap (slice_index (block half)) at.value ∙ here;
+        },
+      )
 
   stands : (object : ℕ) → object < suc (edges_of pairs) → Stands sorted.0 object
   stands object less =
