@@ -196,21 +196,21 @@ side_nodes _ _ _ after (of_fork left right rank left_ranks right_ranks pattern l
     filled_nodes pattern left_text right_text (CLOSE ∷ after) (pattern_cases pattern p.is_pattern) ((λ e. absurd (omega arith)), n)
     (λ rest m. side_nodes left left_ranks left_text rest h m) (λ rest m. side_nodes right right_ranks right_text rest k m) in (
       (λ e.
-        record {
-          left = left;
-          right = right;
-          rank = rank;
-          left_ranks = left_ranks;
-          right_ranks = right_ranks;
-          pattern = pattern;
-          left_text = left_text;
-          right_text = right_text;
-          after = after;
-          has_rank = p;
-          left_side = h;
-          right_side = k;
-          letters_are = letters;
-        }),
+          record {
+            left = left;
+            right = right;
+            rank = rank;
+            left_ranks = left_ranks;
+            right_ranks = right_ranks;
+            pattern = pattern;
+            left_text = left_text;
+            right_text = right_text;
+            after = after;
+            has_rank = p;
+            left_side = h;
+            right_side = k;
+            letters_are = letters;
+          }),
       subst AreNodes (sym letters) inside,
     )
 

@@ -17,7 +17,7 @@ use crate::map_class::MapClass;
 use crate::map_profile::profile_of_map;
 use crate::objects::{codes_by_degree, edges_of, halves_of, letters_of};
 use crate::plane_planting::plant_plane;
-use crate::sample::{Sample, SampleRefusal};
+use crate::sample::{Sample, SampleRefusal, UnsampleRefusal};
 use pm_lehmer::arrange;
 use pm_lists::{Bounds, NumList, check_list};
 use pm_map::{ClassRefusal, RootedMap};
@@ -74,7 +74,17 @@ impl MapClass for Eulerian {
         Ok(sample_of_valid(alloc, size, choices)?)
     }
 
+    fn unsample(
+        _alloc: Global,
+        _map: &RootedMap,
+        _residue: &[u64],
+    ) -> Result<NumList, UnsampleRefusal> {
+        Err(UnsampleRefusal::Memory)
+    }
+
     fn is_sampled_once() {}
+
+    fn is_unsampled_once() {}
 }
 
 /// The map and the residue of valid choices.

@@ -15,7 +15,6 @@ mod quartic_unsampling;
 mod sample;
 mod shape_reading;
 mod unplanting;
-mod unsampling;
 
 pub use eulerian::Eulerian;
 pub use map_class::MapClass;

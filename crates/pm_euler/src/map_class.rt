@@ -80,11 +80,7 @@ pub trait MapClass {
     ///
     /// `Class` exactly where the map isn't in the class, as [`MapClass::size_of`] says; else `List` exactly where the residue
     /// isn't valid for the residue bounds of the map's size; or `Memory`, which may come at any map.
-    fn unsample(
-        alloc: Global,
-        map: &RootedMap,
-        residue: &[u64],
-    ) -> Result<NumList, UnsampleRefusal>
+    fn unsample(alloc: Global, map: &RootedMap, residue: &[u64]) -> Result<NumList, UnsampleRefusal>
         ensures { IsUnsampling choice_limits residue_limits samples answers map.now residue.now result };
 
     /// The laws of the class, to call upon; nothing is computed. A map is answered a size exactly where it is in the

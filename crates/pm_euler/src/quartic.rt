@@ -17,7 +17,6 @@ use crate::map_class::MapClass;
 use crate::planting::plant;
 use crate::quartic_unsampling::unsample_of_class;
 use crate::sample::{Sample, SampleRefusal, UnsampleRefusal};
-use crate::unsampling::check_pair;
 use pm_lehmer::code;
 use pm_limits::MAX_EDGES;
 use pm_lists::{Bounds, NumList, check_list};
@@ -84,7 +83,17 @@ impl MapClass for Quartic {
         map: &RootedMap,
         residue: &[u64],
     ) -> Result<NumList, UnsampleRefusal> {
-        check_pair::<Quartic>(alloc, map, residue)?;
+        let size = match Quartic::size_of(alloc, map) {
+            Ok(size) => size,
+            Err(ClassRefusal::Memory) => return Err(UnsampleRefusal::Memory),
+            Err(refusal) => return Err(UnsampleRefusal::Class(refusal)),
+        };
+        // The map is plane by its type, so its size is admissible.
+        let _edges = map.edges();
+        let bounds = Quartic::residue_bounds(alloc, &size)?;
+        if let Err(refusal) = check_list(residue, &bounds) {
+            return Err(UnsampleRefusal::List(refusal));
+        }
         Ok(unsample_of_class(alloc, map, residue)?)
     }
 
