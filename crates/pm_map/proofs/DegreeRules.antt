@@ -22,6 +22,13 @@ cycle_size_is_unique f d a b is_a is_b = elim (cases_order a b) [
   | inr apart ↦ elim apart [ inl less ↦ absurd (is_b.least a is_a.some less is_a.back) | inr more ↦ absurd (is_a.least b is_b.some more is_b.back) ]
 ]
 
+-- there is one least dart whose degree isn't admitted
+pub least_other_is_unique : (s : Structure) (degrees : Degrees) (a b : ℕ) → IsLeastOther s degrees a → IsLeastOther s degrees b → a ≡ b
+least_other_is_unique s degrees a b x y = elim (cases_order a b) [
+  | inl same ↦ same
+  | inr apart ↦ elim apart [ inl less ↦ absurd (x.breaks (y.least a less)) | inr more ↦ absurd (y.breaks (x.least b more)) ]
+]
+
 -- the first entry that isn't admitted is the first dart whose degree isn't
 pub other_from_entry : (s : Structure) (degrees : Degrees) (sizes : List ℕ) (found : Option ℕ) → length sizes ≡ s.darts → AreCycleSizes s.next sizes s.darts
     → MatchOption found (AreAdmitted degrees sizes) (IsLeastEntry degrees sizes) → MatchOption found (AllAdmitted s degrees) (IsLeastOther s degrees)
