@@ -11,6 +11,7 @@ use Rattle.pm_map.specs.DegreeTable.{AreVertexCounts}
 use Rattle.pm_map.specs.declared.admitted.Degrees.TheVariants.{EvenUpTo}
 use Rattle.pm_map.specs.declared.class_refusal.ClassRefusal.TheVariants.{Memory, Empty, TooMany, Vertex, Face, Loop, Double}
 use Rattle.pm_map.proofs.DegreeCounts.{HasSize, has_size, degree_counts_darts}
+use Rattle.pm_map.proofs.DegreeRules.{least_other_is_unique}
 use Rattle.pm_map.proofs.DegreesTaken.{dart_takes, dart_of_degree, darts_below, darts_below-more, darts_below-bound}
 use Rattle.pm_map.proofs.TableLemmas.{one_vertex}
 use Rattle.pm_trees.specs.First.{IsFirst}
@@ -155,12 +156,6 @@ profile_admits m pairs dart rooted profile is within =
 not_other : (m : RotationSystem) (pairs : List (ℕ × ℕ)) (dart : ℕ) → IsRootedMap m → IsProfile pairs → IsEulerian (structure_of m) pairs → IsLeastOther (structure_of m) (EvenUpTo MAX_DEGREE) dart → ⊥
 not_other m pairs dart rooted profile is other = other.breaks (profile_admits m pairs dart rooted profile is other.within)
 
-one_other : (s : Structure) (a b : ℕ) → IsLeastOther s (EvenUpTo MAX_DEGREE) a → IsLeastOther s (EvenUpTo MAX_DEGREE) b → a ≡ b
-one_other s a b x y = elim (cases_order a b) [
-  | inl same ↦ same
-  | inr apart ↦ elim apart [ inl less ↦ absurd (x.breaks (y.least a less)) | inr more ↦ absurd (y.breaks (x.least b more)) ]
-]
-
 -- a map with a profile has darts
 pub with_profile : (m : RotationSystem) (pairs : List (ℕ × ℕ)) → IsProfile pairs → IsEulerian (structure_of m) pairs → length m.sigma ≡ 0 → ⊥
 with_profile m pairs profile is none =
@@ -180,7 +175,7 @@ one_eulerian_answer m (Err Empty) (Err Empty) rooted x y _ _ = refl
 one_eulerian_answer m (Err Empty) (Err (Vertex d)) rooted x y _ _ = let within = y.within in absurd (omega (arith, x, within))
 one_eulerian_answer m (Err (Vertex d)) (Ok b) rooted x y _ _ = absurd (not_other m b d rooted y.0 y.1 x)
 one_eulerian_answer m (Err (Vertex d)) (Err Empty) rooted x y _ _ = let within = x.within in absurd (omega (arith, y, within))
-one_eulerian_answer m (Err (Vertex d)) (Err (Vertex e)) rooted x y _ _ = ap (λ (k : ℕ). Err (Vertex k)) (one_other (structure_of m) d e x y)
+one_eulerian_answer m (Err (Vertex d)) (Err (Vertex e)) rooted x y _ _ = ap (λ (k : ℕ). Err (Vertex k)) (least_other_is_unique (structure_of m) (EvenUpTo MAX_DEGREE) d e x y)
 one_eulerian_answer m (Err Memory) second rooted x y other _ = absurd (other refl)
 one_eulerian_answer m first (Err Memory) rooted x y _ other = absurd (other refl)
 one_eulerian_answer m (Err (TooMany k)) second rooted x y _ _ = absurd x

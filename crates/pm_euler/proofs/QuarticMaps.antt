@@ -1,7 +1,7 @@
 -- Quartic maps: their size, and what a map is answered that should be one.
-use Rattle.std.proofs.Common.{◌≡◌, ℕ, ◌*◌, ◌/◌, ◌<◌, ◌≤◌, Ok, Err, false, eqb, length, refl, sym, ◌∙◌, ap, subst, inl, inr, arith}
+use Rattle.std.proofs.Common.{◌≡◌, ℕ, ◌*◌, ◌/◌, ◌<◌, ◌≤◌, Ok, Err, false, eqb, length, refl, sym, ◌∙◌, ap, subst, arith}
 use Rattle.std.specs.Prelude.{slice_index}
-use Rattle.std.proofs.lemmas.Bool.{cases_order, ne_eqb}
+use Rattle.std.proofs.lemmas.Bool.{ne_eqb}
 use Rattle.pm_map.specs.Structure.{Structure, IsStructure}
 use Rattle.pm_map.specs.Plane.{vertices}
 use Rattle.pm_map.specs.Rotation.{RotationSystem, structure_of, IsRootedMap}
@@ -12,6 +12,7 @@ use Rattle.pm_map.specs.declared.admitted.Degrees.TheVariants.{Exactly}
 use Rattle.pm_map.specs.declared.class_refusal.ClassRefusal.TheVariants.{Memory, Empty, TooMany, Vertex, Face, Loop, Double}
 use Rattle.pm_euler.specs.Quartic.{IsQuarticSize}
 use Rattle.pm_euler.specs.Sampling.{IsSizeWhereAnswered, HasOneAnswer}
+use Rattle.pm_map.proofs.DegreeRules.{least_other_is_unique}
 use Rattle.pm_map.proofs.DegreeTotals.{darts_of_degree}
 
 -- four times the vertices are the darts
@@ -51,12 +52,6 @@ size_where_answered m n rooted = (λ is. (quartic_size m n rooted is, is), λ bo
 not_other : (m : RotationSystem) (n dart : ℕ) → IsQuartic (structure_of m) n → IsLeastOther (structure_of m) (Exactly 4) dart → ⊥
 not_other m n dart is other = other.breaks (record { degree = 4; counted = is.degrees dart other.within; admitted = refl })
 
-one_other : (s : Structure) (a b : ℕ) → IsLeastOther s (Exactly 4) a → IsLeastOther s (Exactly 4) b → a ≡ b
-one_other s a b x y = elim (cases_order a b) [
-  | inl same ↦ same
-  | inr apart ↦ elim apart [ inl less ↦ absurd (x.breaks (y.least a less)) | inr more ↦ absurd (y.breaks (x.least b more)) ]
-]
-
 pub one_quartic_answer : HasOneAnswer IsQuarticAnswer
 one_quartic_answer m (Ok a) (Ok b) rooted x y _ _ = ap Ok (sym x.count ∙ y.count)
 one_quartic_answer m (Ok a) (Err Empty) rooted x y _ _ = let some = x.some in absurd (omega (arith, y, some))
@@ -66,7 +61,7 @@ one_quartic_answer m (Err Empty) (Err Empty) rooted x y _ _ = refl
 one_quartic_answer m (Err Empty) (Err (Vertex d)) rooted x y _ _ = let within = y.within in absurd (omega (arith, x, within))
 one_quartic_answer m (Err (Vertex d)) (Ok b) rooted x y _ _ = absurd (not_other m b d y x)
 one_quartic_answer m (Err (Vertex d)) (Err Empty) rooted x y _ _ = let within = x.within in absurd (omega (arith, y, within))
-one_quartic_answer m (Err (Vertex d)) (Err (Vertex e)) rooted x y _ _ = ap (λ (k : ℕ). Err (Vertex k)) (one_other (structure_of m) d e x y)
+one_quartic_answer m (Err (Vertex d)) (Err (Vertex e)) rooted x y _ _ = ap (λ (k : ℕ). Err (Vertex k)) (least_other_is_unique (structure_of m) (Exactly 4) d e x y)
 one_quartic_answer m (Err Memory) second rooted x y other _ = absurd (other refl)
 one_quartic_answer m first (Err Memory) rooted x y _ other = absurd (other refl)
 one_quartic_answer m (Err (TooMany k)) second rooted x y _ _ = absurd x
