@@ -1,42 +1,27 @@
 -- Which words that begin with `draw` begin a command.
-use Rattle.std.proofs.Common.{◌≡◌, ℕ, suc, ◌<◌, List, [], ◌∷◌, ◌++◌, length, take, refl, sym, ◌∙◌, ap, subst, arith}
+use Rattle.std.proofs.Common.{◌≡◌, ℕ, suc, ◌<◌, List, [], ◌∷◌, ◌++◌, length, take, refl, sym, ◌∙◌, ap, arith}
 use Rattle.std.specs.Prelude.{codes, decimal}
 use Rattle.pm_trees.specs.Pairs.{IsProfile}
 use Rattle.pm_euler.specs.Quartic.{IsQuarticSize}
 use Rattle.pm_cli.specs.declared.words.Command.{Command}
-use Rattle.pm_cli.specs.declared.words.Command.TheVariants.{CloseEulerian, Canon, CheckGeneral, CheckQuartic, CheckEulerian, SampleQuartic, SampleEulerian, DrawQuartic, DrawEulerian}
+use Rattle.pm_cli.specs.declared.words.Command.TheVariants.{DrawQuartic, DrawEulerian}
 use Rattle.pm_cli.specs.Commands.{spelling, AreDrawNumbers, IsCommand, Spells, IsNoCommand, HasNumbers, HasNoNumbers}
 use Rattle.pm_cli.specs.ProfileWord.{profile_text}
-use Rattle.pm_cli.proofs.CommandWords.{front, stops_at, one_is_a_size, one_is_a_profile, some_words, second_letter, other_second}
+use Rattle.pm_cli.proofs.CommandWords.{stops_at, one_is_a_size, one_is_a_profile, some_words, second_letter, other_second}
 use Rattle.pm_cli.proofs.NumberWords.{some_numbers}
-
--- the command that begins with `draw`
-data IsDraw (command : Command) : Type 0 where
-  of_quartic : (size seed count : ℕ) → command ≡ DrawQuartic size seed count → IsQuarticSize size → AreDrawNumbers seed count → IsDraw command
-  of_eulerian : (profile : List (ℕ × ℕ)) (seed count : ℕ) → command ≡ DrawEulerian profile seed count → IsProfile profile → AreDrawNumbers seed count → IsDraw command
-
-drawing : (command : Command) → IsCommand command → take 1 (spelling command) ≡ codes "draw" ∷ [] → IsDraw command
-drawing CloseEulerian is e = cc
-drawing Canon is e = cc
-drawing CheckGeneral is e = cc
-drawing CheckQuartic is e = cc
-drawing CheckEulerian is e = cc
-drawing (SampleQuartic size) is e = cc
-drawing (SampleEulerian profile) is e = cc
-drawing (DrawQuartic size seed count) is e = of_quartic size seed count refl is.0 is.1
-drawing (DrawEulerian profile seed count) is e = of_eulerian profile seed count refl is.0 is.1
+use Rattle.pm_cli.proofs.Verbs.{drawing, IsDraw, draw_quartic, draw_eulerian, verb_is}
+use Rattle.pm_cli.proofs.WordPlaces.{front}
 
 -- where no drawing begins with one word more, no command does
 module _ (ws : List (List ℕ)) (k : ℕ) (first : take 1 ws ≡ codes "draw" ∷ [])
     (no_quartic : (size seed count : ℕ) → IsQuarticSize size → AreDrawNumbers seed count → take (suc k) ws ≡ take (suc k) (spelling (DrawQuartic size seed count)) → ⊥)
     (no_eulerian : (profile : List (ℕ × ℕ)) (seed count : ℕ) → IsProfile profile → AreDrawNumbers seed count → take (suc k) ws ≡ take (suc k) (spelling (DrawEulerian profile seed count)) → ⊥) where
+  no_such : (command : Command) → IsDraw command → IsCommand command → take (suc k) ws ≡ take (suc k) (spelling command) → ⊥
+  no_such _ (draw_quartic size seed count) is e = no_quartic size seed count is.0 is.1 e
+  no_such _ (draw_eulerian profile seed count) is e = no_eulerian profile seed count is.0 is.1 e
+
   no_drawing : (command : Command) → IsCommand command → take (suc k) ws ≡ take (suc k) (spelling command) → ⊥
-  no_drawing command is e = elim (drawing command is (sym (front 1 (suc k) ws (spelling command) (omega arith) e) ∙ first)) [
-    | of_quartic size seed count same is_size numbers ↦
-        no_quartic size seed count is_size numbers (subst (λ (c : Command). take (suc k) ws ≡ take (suc k) (spelling c)) same e)
-    | of_eulerian profile seed count same is_profile numbers ↦
-        no_eulerian profile seed count is_profile numbers (subst (λ (c : Command). take (suc k) ws ≡ take (suc k) (spelling c)) same e)
-  ]
+  no_drawing command is e = no_such command (verb_is (suc k) ws drawing command (omega arith) first e) is e
 
 -- `draw` alone, or with another class
 pub draw_alone : (ws : List (List ℕ)) → take 1 ws ≡ codes "draw" ∷ [] → (take 2 ws ≡ codes "draw" ∷ codes "quartic" ∷ [] → ⊥) → (take 2 ws ≡ codes "draw" ∷ codes "eulerian" ∷ [] → ⊥) → IsNoCommand ws 1

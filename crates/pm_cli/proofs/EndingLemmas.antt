@@ -7,7 +7,7 @@ use Rattle.pm_io.specs.Bytes.{added}
 use Rattle.pm_io.specs.Faults.{FaultsRose}
 use Rattle.pm_map.specs.Rotation.{RotationSystem}
 use Rattle.pm_cli.specs.declared.words.Command.{Command}
-use Rattle.pm_cli.specs.declared.words.Command.TheVariants.{CloseEulerian, Canon, CheckGeneral, CheckQuartic, CheckEulerian, SampleQuartic, SampleEulerian, DrawQuartic, DrawEulerian}
+use Rattle.pm_cli.specs.declared.words.Command.TheVariants.{CloseEulerian, OpenEulerian, Canon, CheckGeneral, CheckQuartic, CheckEulerian, SampleQuartic, SampleEulerian, DrawQuartic, DrawEulerian}
 use Rattle.pm_cli.specs.declared.refusal.Limit.TheVariants.{Bytes, Letters, Edges}
 use Rattle.pm_cli.specs.declared.refusal.Refusal.{Refusal}
 use Rattle.pm_cli.specs.declared.refusal.Refusal.TheVariants.{Usage, Text, Limited, Map, Tree, Invalid}
@@ -32,6 +32,7 @@ flush_failed text old mid new faults_old faults_mid faults_new whole stays calm 
 pub reads_input : (command : Command) → ((size seed count : ℕ) → command ≡ DrawQuartic size seed count → ⊥)
     → ((profile : List (ℕ × ℕ)) (seed count : ℕ) → command ≡ DrawEulerian profile seed count → ⊥) → reads command ≡ true
 reads_input CloseEulerian other another = refl
+reads_input OpenEulerian other another = refl
 reads_input Canon other another = refl
 reads_input CheckGeneral other another = refl
 reads_input CheckQuartic other another = refl

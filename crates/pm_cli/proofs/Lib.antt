@@ -8,11 +8,13 @@ pub mod OneAnswer
 pub mod OneClosing
 pub mod OneCommand
 pub mod OneMapAnswer
+pub mod OneOpening
 pub mod OneSampling
 pub mod OneText
 pub mod PairTexts
 pub mod Records
 pub mod Sizes
 pub mod TreeLines
+pub mod Verbs
 pub mod WholeDrawings
 pub mod WordPlaces

@@ -11,7 +11,7 @@ use Rattle.pm_euler.proofs.EulerianSamples.{one_eulerian_sample}
 use Rattle.pm_euler.proofs.OneSample.{one_quartic_sample}
 use Rattle.pm_euler.proofs.QuarticMaps.{one_quartic_answer}
 use Rattle.pm_cli.specs.declared.words.Command.{Command}
-use Rattle.pm_cli.specs.declared.words.Command.TheVariants.{CloseEulerian, Canon, CheckGeneral, CheckQuartic, CheckEulerian, SampleQuartic, SampleEulerian, DrawQuartic, DrawEulerian}
+use Rattle.pm_cli.specs.declared.words.Command.TheVariants.{CloseEulerian, OpenEulerian, Canon, CheckGeneral, CheckQuartic, CheckEulerian, SampleQuartic, SampleEulerian, DrawQuartic, DrawEulerian}
 use Rattle.pm_cli.specs.declared.refusal.Refusal.{Refusal}
 use Rattle.pm_cli.specs.declared.refusal.Refusal.TheVariants.{Usage}
 use Rattle.pm_cli.specs.MapCommands.{HasCanonicalText, IsCountsText}
@@ -21,11 +21,13 @@ use Rattle.pm_cli.specs.Laws.{HasOneAnswer}
 use Rattle.pm_cli.proofs.OneClosing.{closes_once}
 use Rattle.pm_cli.proofs.OneCommand.{one_command}
 use Rattle.pm_cli.proofs.OneMapAnswer.{one_canonical_text, one_counts_text, map_answers_once, class_answers_once}
+use Rattle.pm_cli.proofs.OneOpening.{opens_once}
 use Rattle.pm_cli.proofs.OneSampling.{samples_once, draws_once}
 
 -- a command has one answer to a file
 answers_once : (command : Command) → IsCommand command → (bytes : List ℕ) (a b : Result (List ℕ) Refusal) → CommandAnswers command bytes a → CommandAnswers command bytes b → a ≡ b
 answers_once CloseEulerian is bytes a b x y = closes_once bytes a b x y
+answers_once OpenEulerian is bytes a b x y = opens_once bytes a b x y
 answers_once Canon is bytes a b x y = map_answers_once MAX_EDGES HasCanonicalText one_canonical_text bytes a b x y
 answers_once CheckGeneral is bytes a b x y = map_answers_once (MAX_EDGES / 2) IsCountsText one_counts_text bytes a b x y
 answers_once CheckQuartic is bytes a b x y = class_answers_once IsQuarticAnswer one_quartic_answer bytes a b x y

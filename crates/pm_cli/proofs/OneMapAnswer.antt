@@ -85,20 +85,20 @@ same_why : (f g : FileRefusal) → ◌≡◌ {A = Result (RotationSystem × Opti
 same_why f g e = cc
 
 -- a file doesn't make a map and none
-not_both : (limit : ℕ) (Q : RotationSystem → Type 0) (bytes : List ℕ) (refusal : Refusal) → HasMap bytes limit Q → RefusesMapFile limit bytes refusal → ⊥
+pub not_both : (limit : ℕ) (Q : RotationSystem → Type 0) (bytes : List ℕ) (refusal : Refusal) → HasMap bytes limit Q → RefusesMapFile limit bytes refusal → ⊥
 not_both limit Q bytes refusal x y =
     let no = refused_map limit bytes refusal y in
     differ x.map x.residue no.why (one_file_answer bytes limit (Ok (x.map, x.residue)) (Err no.why) x.answered no.answered (λ e. cc) no.told)
 
 -- it makes one map, a rooted one
-one_map : (limit : ℕ) (Q R : RotationSystem → Type 0) (bytes : List ℕ) (x : HasMap bytes limit Q) (y : HasMap bytes limit R) → (x.map ≡ y.map) × IsRootedMap y.map
+pub one_map : (limit : ℕ) (Q R : RotationSystem → Type 0) (bytes : List ℕ) (x : HasMap bytes limit Q) (y : HasMap bytes limit R) → (x.map ≡ y.map) × IsRootedMap y.map
 one_map limit Q R bytes x y = (
   same_map x.map y.map x.residue y.residue (one_file_answer bytes limit (Ok (x.map, x.residue)) (Ok (y.map, y.residue)) x.answered y.answered (λ e. cc) (λ e. cc)),
   rooted_map bytes limit y.residue y.map y.answered,
 )
 
 -- and is refused for one reason
-one_refusal_of_map : (limit : ℕ) (bytes : List ℕ) (a b : Refusal) → RefusesMapFile limit bytes a → RefusesMapFile limit bytes b → a ≡ b
+pub one_refusal_of_map : (limit : ℕ) (bytes : List ℕ) (a b : Refusal) → RefusesMapFile limit bytes a → RefusesMapFile limit bytes b → a ≡ b
 one_refusal_of_map limit bytes a b x y =
     let first = refused_map limit bytes a x in
     let second = refused_map limit bytes b y in

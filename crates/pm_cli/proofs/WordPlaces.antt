@@ -1,6 +1,15 @@
 -- The first words of a list of texts, by their places.
-use Rattle.std.proofs.Common.{◌≡◌, ℕ, ◌<◌, List, [], ◌∷◌, ◌++◌, length, take, map, refl, ap, arith}
+use Rattle.std.proofs.Common.{◌≡◌, ℕ, zero, suc, ◌<◌, ◌≤◌, List, [], ◌∷◌, ◌++◌, length, take, map, refl, sym, ap, ◌∙◌, arith}
 use Rattle.std.specs.Prelude.{slice_index_or}
+
+-- equal fronts have equal shorter fronts
+pub front : (k j : ℕ) (xs ys : List (List ℕ)) → k ≤ j → take j xs ≡ take j ys → take k xs ≡ take k ys
+front k j xs ys le e = sym (shorter k j xs le) ∙ ap (take k) e ∙ shorter k j ys le where
+  shorter : (k j : ℕ) (xs : List (List ℕ)) → k ≤ j → take k (take j xs) ≡ take k xs
+  shorter zero j xs le = refl
+  shorter (suc k) zero xs le = absurd (omega arith)
+  shorter (suc k) (suc j) [] le = refl
+  shorter (suc k) (suc j) (x ∷ xs) le = ap (λ (ys : List (List ℕ)). x ∷ ys) (shorter k j xs (omega arith))
 
 -- the words by their places
 pub second_word : {X : Type 0} (f : X → List ℕ) (xs : List X) (d : X) (a : List ℕ) → take 1 (map f xs) ≡ a ∷ [] → 1 < length xs → take 2 (map f xs) ≡ a ∷ f (slice_index_or xs 1 d) ∷ []

@@ -2,7 +2,7 @@
 use Rattle.std.specs.Prelude.{◌≡◌, ℕ, ◌<◌, ◌≤◌, true, false, List, length, Result, Err}
 use Rattle.pm_io.specs.declared.TheConstants.{MAX_BYTES}
 use Rattle.pm_cli.specs.declared.words.Command.{Command}
-use Rattle.pm_cli.specs.declared.words.Command.TheVariants.{CloseEulerian, Canon, CheckGeneral, CheckQuartic, CheckEulerian, SampleQuartic, SampleEulerian, DrawQuartic, DrawEulerian}
+use Rattle.pm_cli.specs.declared.words.Command.TheVariants.{CloseEulerian, OpenEulerian, Canon, CheckGeneral, CheckQuartic, CheckEulerian, SampleQuartic, SampleEulerian, DrawQuartic, DrawEulerian}
 use Rattle.pm_cli.specs.declared.refusal.Limit.TheVariants.{Bytes}
 use Rattle.pm_cli.specs.declared.refusal.Refusal.{Refusal}
 use Rattle.pm_cli.specs.declared.refusal.Refusal.TheVariants.{Usage, Limited}
@@ -11,6 +11,7 @@ use Rattle.pm_euler.specs.Quartic.{SamplesQuartic}
 use Rattle.pm_euler.specs.Eulerian.{SamplesEulerian}
 use Rattle.pm_cli.specs.Commands.{Spells, reads, IsNoCommand}
 use Rattle.pm_cli.specs.Closing.{ClosesEulerian}
+use Rattle.pm_cli.specs.Opening.{OpensEulerian}
 use Rattle.pm_cli.specs.MapCommands.{Canonizes, ChecksGeneral, ChecksQuartic, ChecksEulerian}
 use Rattle.pm_cli.specs.Sampling.{Samples}
 use Rattle.pm_cli.specs.Drawing.{Draws}
@@ -18,6 +19,7 @@ use Rattle.pm_cli.specs.Drawing.{Draws}
 -- what a command answers to a file within the limit; of one that reads nothing, what it answers
 abbrev pub CommandAnswers : Command → List ℕ → Result (List ℕ) Refusal → Type 0
 CommandAnswers CloseEulerian bytes answer = ClosesEulerian bytes answer
+CommandAnswers OpenEulerian bytes answer = OpensEulerian bytes answer
 CommandAnswers Canon bytes answer = Canonizes bytes answer
 CommandAnswers CheckGeneral bytes answer = ChecksGeneral bytes answer
 CommandAnswers CheckQuartic bytes answer = ChecksQuartic bytes answer

@@ -4,12 +4,13 @@ use Rattle.pm_trees.specs.Pairs.{IsProfile}
 use Rattle.pm_euler.specs.Quartic.{IsQuarticSize}
 use Rattle.pm_cli.specs.declared.words.TheConstants.{MAX_RECORDS}
 use Rattle.pm_cli.specs.declared.words.Command.{Command}
-use Rattle.pm_cli.specs.declared.words.Command.TheVariants.{CloseEulerian, Canon, CheckGeneral, CheckQuartic, CheckEulerian, SampleQuartic, SampleEulerian, DrawQuartic, DrawEulerian}
+use Rattle.pm_cli.specs.declared.words.Command.TheVariants.{CloseEulerian, OpenEulerian, Canon, CheckGeneral, CheckQuartic, CheckEulerian, SampleQuartic, SampleEulerian, DrawQuartic, DrawEulerian}
 use Rattle.pm_cli.specs.ProfileWord.{profile_text}
 
 -- the words of a command
 abbrev pub spelling : Command → List (List ℕ)
 spelling CloseEulerian = codes "close" ∷ codes "eulerian" ∷ []
+spelling OpenEulerian = codes "open" ∷ codes "eulerian" ∷ []
 spelling Canon = codes "canon" ∷ []
 spelling CheckGeneral = codes "check" ∷ codes "general" ∷ []
 spelling CheckQuartic = codes "check" ∷ codes "quartic" ∷ []
@@ -32,6 +33,7 @@ IsCommand (SampleEulerian profile) = IsProfile profile
 IsCommand (DrawQuartic size seed count) = IsQuarticSize size × AreDrawNumbers seed count
 IsCommand (DrawEulerian profile seed count) = IsProfile profile × AreDrawNumbers seed count
 IsCommand CloseEulerian = ⊤
+IsCommand OpenEulerian = ⊤
 IsCommand Canon = ⊤
 IsCommand CheckGeneral = ⊤
 IsCommand CheckQuartic = ⊤
@@ -45,6 +47,7 @@ pub record Spells (words : List (List ℕ)) (command : Command) : Type 0 where
 -- whether the command reads its input
 abbrev pub reads : Command → Bool
 reads CloseEulerian = true
+reads OpenEulerian = true
 reads Canon = true
 reads CheckGeneral = true
 reads CheckQuartic = true
@@ -57,6 +60,7 @@ reads (DrawEulerian profile seed count) = false
 -- whether the command writes its answer record by record, and not in one piece
 abbrev pub writes_records : Command → Bool
 writes_records CloseEulerian = false
+writes_records OpenEulerian = false
 writes_records Canon = false
 writes_records CheckGeneral = false
 writes_records CheckQuartic = false

@@ -10,6 +10,7 @@ pub mod Laws
 pub mod Lines
 pub mod MapCommands
 pub mod MapReading
+pub mod Opening
 pub mod ProfileWord
 pub mod Sampling
 pub mod TreeFile

@@ -6,6 +6,7 @@ ghost use Rattle.pm_cli.specs.Commands.{IsCommand, reads};
 use crate::canon::canonize;
 use crate::check::{check_class, check_general};
 use crate::close::close_eulerian;
+use crate::open::open_eulerian;
 use crate::refusal::Stop;
 use crate::sample::sample;
 use crate::words::Command;
@@ -21,6 +22,7 @@ pub(crate) fn answer(alloc: Global, command: &Command, bytes: &[u8]) -> Result<V
 {
     match command {
         Command::CloseEulerian => close_eulerian(alloc, bytes),
+        Command::OpenEulerian => open_eulerian(alloc, bytes),
         Command::Canon => canonize(alloc, bytes),
         Command::CheckGeneral => check_general(alloc, bytes),
         Command::CheckQuartic => check_class::<Quartic>(alloc, bytes),

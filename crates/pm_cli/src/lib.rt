@@ -10,6 +10,7 @@ mod draw;
 mod engine;
 mod laws;
 mod map_file;
+mod open;
 mod profile_word;
 mod refusal;
 mod sample;
@@ -27,5 +28,7 @@ mod draw_tests;
 mod eulerian_tests;
 #[cfg(test)]
 mod limit_tests;
+#[cfg(test)]
+mod open_tests;
 #[cfg(test)]
 mod tests;

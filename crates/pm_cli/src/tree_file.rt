@@ -1,12 +1,12 @@
-ghost use Rattle.std.specs.Prelude.{◌≡◌, ℕ, ◌++◌, ◌<◌, ◌≤◌, List, length, codes, MatchOption};
+ghost use Rattle.std.specs.Prelude.{◌≡◌, ℕ, ◌++◌, ◌<◌, ◌≤◌, List, length, codes, IfOk, MatchOption};
 ghost use Rattle.pm_io.specs.declared.TheConstants.{MAX_BYTES as limit};
 ghost use Rattle.pm_text.specs.Broken.{IsBrokenLine};
-ghost use Rattle.pm_cli.specs.TreeFile.{IsTreeFile, IsTreeLineOf, IsTreeFileAnswer};
+ghost use Rattle.pm_cli.specs.TreeFile.{IsTreeFile, IsTreeLine, IsTreeLineOf, IsTreeFileAnswer};
 
 use crate::refusal::{Limit, Refusal, Stop, TreeRule};
 use pm_text::Lines;
 use pm_trees::{Tree, TreeRefusal, read_tree};
-use std::alloc::Global;
+use std::alloc::{AllocError, Global};
 
 // The first line of a tree file.
 #[derive(Clone, Copy)]
@@ -73,4 +73,15 @@ pub(crate) fn read_tree_file(alloc: Global, bytes: &[u8]) -> Result<Tree, Stop>
     } else {
         Err(Stop::Refused(Refusal::Text { line: 2 }))
     }
+}
+
+/// The tree file of the tree.
+pub(crate) fn tree_text(alloc: Global, tree: &Tree) -> Result<Vec<u8>, AllocError>
+    ensures { IfOk result (λ text. IsTreeLine tree.now text.items) }
+{
+    let mut text = Vec::new(alloc);
+    text.extend_from_slice(b"tree ")?;
+    text.extend_from_slice(tree.letters())?;
+    text.push(b'\n')?;
+    Ok(text)
 }

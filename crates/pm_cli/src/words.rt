@@ -58,6 +58,8 @@ fn record_count(word: &String) -> Option<u64>
 pub enum Command {
     /// `close eulerian`: closes a blossoming tree.
     CloseEulerian,
+    /// `open eulerian`: opens a map whose vertices have even degrees.
+    OpenEulerian,
     /// `canon`: answers the canonical map of a map.
     Canon,
     /// `check general`: counts the vertices, edges and faces of a map.
@@ -105,6 +107,9 @@ impl Command {
         if is_word(&words[0], "close") {
             return Ok(Command::of_close(words));
         }
+        if is_word(&words[0], "open") {
+            return Ok(Command::of_open(words));
+        }
         if is_word(&words[0], "canon") {
             return Ok(Command::of_canon(words));
         }
@@ -143,6 +148,17 @@ impl Command {
             return Err(1);
         }
         Command::CloseEulerian.unless_more(words, 2)
+    }
+
+    // The same of words that begin with `open`.
+    fn of_open(words: &[String]) -> Result<Command, u32>
+        requires { take 1 (map string_bytes words.now) ≡ codes "open" ∷ [] }
+        ensures { MatchResult result (Spells (map string_bytes words.now)) (IsNoCommand (map string_bytes words.now)) }
+    {
+        if words.len() == 1 || !is_word(&words[1], "eulerian") {
+            return Err(1);
+        }
+        Command::OpenEulerian.unless_more(words, 2)
     }
 
     // The same of words that begin with `canon`.
