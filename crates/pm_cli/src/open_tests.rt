@@ -81,12 +81,6 @@ fn refusals_of_maps_that_do_not_open(rt: HostRuntime) -> Result<(), Fail> {
         ),
         (
             "open eulerian",
-            b"map 4194305 0\nend\n".as_slice(),
-            7,
-            b"planarmap: limit edges 4194305\n".as_slice(),
-        ),
-        (
-            "open eulerian",
             b"map 2 0\nv 0 1 2 2\nend\n".as_slice(),
             6,
             b"planarmap: map permutation 3\n".as_slice(),
