@@ -18,7 +18,7 @@ mod tree_file;
 mod words;
 
 pub use engine::run;
-pub use laws::words_and_bytes_have_one_answer;
+pub use laws::{opening_undoes_closing, words_and_bytes_have_one_answer};
 pub use refusal::{Limit, MapRule, Refusal, Stop, TreeRule};
 pub use words::{Command, MAX_RECORDS};
 

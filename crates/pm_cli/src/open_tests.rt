@@ -1,4 +1,5 @@
 //! Runs that open maps to trees. The bytes were worked out apart from the code.
+use crate::opening_undoes_closing;
 use crate::tests::{NONE, run_on};
 use std::test::Fail;
 
@@ -33,6 +34,7 @@ fn opens_eulerian_maps(rt: HostRuntime) -> Result<(), Fail> {
 
 #[test]
 fn closed_trees_are_opened_again(rt: HostRuntime) -> Result<(), Fail> {
+    opening_undoes_closing();
     for tree in [
         b"tree l\n".as_slice(),
         b"tree (l)\n".as_slice(),

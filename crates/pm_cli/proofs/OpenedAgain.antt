@@ -1,0 +1,77 @@
+-- `open eulerian` undoes `close eulerian`, and `close eulerian` undoes `open eulerian` up to the names of darts.
+use Rattle.std.proofs.Common.{◌≡◌, ℕ, List, [], refl, subst}
+use Rattle.std.specs.Prelude.{None, Result, Ok}
+use Rattle.std.proofs.lemmas.List.{append-nil}
+use Rattle.pm_limits.specs.declared.TheConstants.{MAX_EDGES}
+use Rattle.pm_map.specs.Rotation.{RotationSystem, structure_of}
+use Rattle.pm_map.proofs.SameMaps.{same_symmetric, same_transitive}
+use Rattle.pm_map.proofs.UniqueCanonical.{canonical_map_is_rooted}
+use Rattle.pm_mapfile.specs.Answers.{AnswersFile}
+use Rattle.pm_mapfile.proofs.ReadAgainLemmas.{map_file_is_read_again}
+use Rattle.pm_close.proofs.PlaneMap.{rooted_closure}
+use Rattle.pm_cli.specs.declared.refusal.Refusal.{Refusal}
+use Rattle.pm_cli.specs.Laws.{ClosedTreesOpen, OpenedMapsClose}
+use Rattle.pm_cli.specs.MapCommands.{HasMap, HasCanonicalText}
+use Rattle.pm_cli.specs.Opening.{HasOpenText, OpensEulerian, opened, no_map, no_dart, other_degree}
+use Rattle.pm_cli.proofs.OneMapAnswer.{one_map}
+
+-- the text of a closed tree is a map file, and its map opens to the tree
+pub opened_again : ClosedTreesOpen
+opened_again bytes text closes =
+    let closing = closes.holds in
+    let rooted = rooted_closure closes.word closing.closed closing.blossoming closing.balanced closing.is_closed in
+    let canonical = canonical_map_is_rooted closing.closed closing.canonical rooted closing.is_canonical in
+    opened bytes (record {
+      residue = None;
+      map = closing.canonical;
+      answered =
+          subst (λ (file : List ℕ). AnswersFile file MAX_EDGES None (Ok closing.canonical)) (append-nil text)
+          (map_file_is_read_again closing.canonical MAX_EDGES text [] None canonical canonical.few closing.is_text (record { fit = tt; spelled = refl }));
+      holds = record {
+        word = closes.word;
+        opened = record {
+          blossoming = closing.blossoming;
+          balanced = closing.balanced;
+          closure = closing.closed;
+          is_closure = closing.is_closed;
+          same = same_symmetric (structure_of closing.closed) (structure_of closing.canonical) rooted.structure closing.is_canonical.is_same;
+        };
+        is_text = closes.spelled;
+      };
+    })
+
+same_text : {a b : List ℕ} → ◌≡◌ {A = Result (List ℕ) Refusal} (Ok a) (Ok b) → a ≡ b
+same_text e = cc
+
+opened_map : (bytes text : List ℕ) (answer : Result (List ℕ) Refusal) → OpensEulerian bytes answer → answer ≡ Ok text → HasMap bytes MAX_EDGES (λ m. HasOpenText m text)
+opened_map bytes text _ (opened other h) e = subst (λ (t : List ℕ). HasMap bytes MAX_EDGES (λ m. HasOpenText m t)) (same_text e) h
+opened_map bytes text _ (no_map refusal h) e = cc
+opened_map bytes text _ (no_dart h) e = cc
+opened_map bytes text _ (other_degree dart h) e = cc
+
+-- the tree of an opened map closes to the same map, whose canonical map is that of the map
+pub closed_again : OpenedMapsClose
+closed_again bytes text canonical opens canonizes =
+    let x = opened_map bytes text (Ok text) opens refl in
+    let same = one_map MAX_EDGES (λ m. HasOpenText m text) (λ m. HasCanonicalText m canonical) bytes x canonizes in
+    let tree = subst (λ (m : RotationSystem). HasOpenText m text) same.0 x.holds in
+    let map : RotationSystem = canonizes.map in
+    let is = tree.opened in
+    let has = canonizes.holds in
+    let back = same_symmetric (structure_of map) (structure_of is.closure) same.1.structure is.same in
+    record {
+      word = tree.word;
+      spelled = tree.is_text;
+      holds = record {
+        blossoming = is.blossoming;
+        balanced = is.balanced;
+        closed = is.closure;
+        is_closed = is.is_closure;
+        canonical = has.canonical;
+        is_canonical = record {
+          is_canonical = has.is_canonical.is_canonical;
+          is_same = same_transitive (structure_of is.closure) (structure_of map) (structure_of has.canonical) back has.is_canonical.is_same;
+        };
+        is_text = has.is_text;
+      };
+    }
