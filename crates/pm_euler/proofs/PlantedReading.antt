@@ -1,11 +1,10 @@
 -- A blossoming tree whose nodes all have degree 4 is the planted tree of a shape and ranks.
-use Rattle.std.proofs.Common.{◌≡◌, ℕ, suc, ◌+◌, ◌-◌, ◌==◌, cond, inl, inr, List, [], ◌∷◌, ◌++◌, length, refl, ap, sym, ◌∙◌, subst, arith, eq-eqb}
+use Rattle.std.proofs.Common.{◌≡◌, ℕ, ◌+◌, ◌-◌, ◌==◌, cond, inl, inr, List, [], ◌∷◌, ◌++◌, length, refl, sym, ◌∙◌, subst, arith, eq-eqb}
 use Rattle.std.proofs.lemmas.Bool.{cases_eq}
 use Rattle.pm_trees.specs.declared.letters.TheConstants.{LEAF, BUD, OPEN, CLOSE}
-use Rattle.pm_trees.specs.Word.{contour}
 use Rattle.pm_trees.specs.Node.{own_letters}
 use Rattle.pm_trees.specs.Blossoming.{IsBlossoming}
-use Rattle.pm_trees.specs.BudPattern.{IsPattern, HasRank}
+use Rattle.pm_trees.specs.BudPattern.{IsPattern}
 use Rattle.pm_trees.specs.Degrees.{nodes_of}
 use Rattle.pm_trees.proofs.Tally.{tally, tally_is}
 use Rattle.pm_trees.proofs.Dyck.{dyck_from_matched}

@@ -1,22 +1,22 @@
 -- The choices of a quartic map and a residue: their three parts, and what each of them is.
-use Rattle.std.proofs.Common.{◌≡◌, ℕ, zero, suc, ◌+◌, ◌-◌, ◌*◌, ◌<◌, ◌≤◌, inl, inr, List, [], ◌∷◌, ◌++◌, length, length-append, length-take, length-drop, take, drop, All, refl, sym, ◌∙◌, ap, ap₂, subst, arith, take-append-drop, drop-drop, drop-cons}
+use Rattle.std.proofs.Common.{◌≡◌, ℕ, suc, ◌+◌, ◌-◌, ◌*◌, ◌<◌, inl, inr, List, [], ◌∷◌, ◌++◌, length, length-append, take, drop, All, refl, sym, ◌∙◌, ap, ap₂, subst, arith, take-append-drop, drop-drop, drop-cons}
 use Rattle.std.specs.Prelude.{slice_index}
 use Rattle.std.proofs.Math.ListN.{get_or-append}
 use Rattle.std.proofs.lemmas.Bool.{cases_lt}
-use Rattle.std.proofs.lemmas.List.{take_at, drop_at, drop_all, get_or-append_right, get_or_default}
+use Rattle.std.proofs.lemmas.List.{take_at, drop_at, drop_all, get_or-append_right}
 use Rattle.std.proofs.lemmas.List.Elements.{All-cons, All-append, All-nil}
 use Rattle.pm_trees.specs.declared.letters.TheConstants.{OPEN, CLOSE}
 use Rattle.pm_trees.specs.Binomial.{choose}
-use Rattle.pm_trees.specs.BudPattern.{HasRank}
 use Rattle.pm_trees.proofs.Ranked.{patterns_ranked}
 use Rattle.pm_lists.specs.Valid.{IsValidList}
-use Rattle.pm_lehmer.specs.Lehmer.{code_of, IsArrangementCode, IsArrangementOf}
+use Rattle.pm_lehmer.specs.Lehmer.{code_of}
 use Rattle.pm_lehmer.proofs.Arranged.{IsArrangementOf-unique}
-use Rattle.pm_remy.specs.Tree.{Tree, leaf, fork, labels_of, leaves, shape_of}
+use Rattle.pm_remy.specs.Tree.{Tree, labels_of, leaves}
 use Rattle.pm_remy.specs.Growth.{grown, IsChoices, IsGrowth}
 use Rattle.pm_remy.proofs.Grown.{counted-grown, grown-injective}
 use Rattle.pm_remy.proofs.Ungrown.{labels-grown}
 use Rattle.pm_remy.proofs.Once.{counted-leaves}
+use Rattle.pm_remy.proofs.GrowthLaws.{growth_leaves}
 use Rattle.pm_remy.proofs.Reading.{same_tree}
 use Rattle.pm_map.specs.Rotation.{RotationSystem}
 use Rattle.pm_euler.specs.Bounds.{quartic_choices}
@@ -94,9 +94,6 @@ side_ranks _ _ _ (of_leaf label) = All-nil (λ (rank : ℕ). rank < 3)
 side_ranks _ _ _ (of_fork left right rank left_ranks right_ranks pattern left_text right_text p h k) =
     All-cons (λ (x : ℕ). x < 3) rank (left_ranks ++ right_ranks) ((patterns_ranked 2 (omega arith)).below pattern rank p)
     (All-append (λ (x : ℕ). x < 3) left_ranks right_ranks (side_ranks left left_ranks left_text h) (side_ranks right right_ranks right_text k))
-
-pub growth_leaves : (choices : List ℕ) → IsChoices choices → leaves (grown choices) ≡ suc (length choices)
-growth_leaves choices valid = counted-leaves (suc (length choices)) (grown choices) (counted-grown choices valid)
 
 -- A sample from its parts: the choices that grow the tree, the ranks with which it is planted, and the number of the free
 -- leaf.

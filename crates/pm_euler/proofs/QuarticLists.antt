@@ -1,5 +1,5 @@
 -- A quartic map and a residue come from exactly one list of choices.
-use Rattle.std.proofs.Common.{◌≡◌, ℕ, suc, ◌+◌, ◌-◌, ◌*◌, ◌/◌, ◌<◌, inl, inr, List, [], ◌∷◌, ◌++◌, length, take, drop, refl, sym, ◌∙◌, ap, subst, arith}
+use Rattle.std.proofs.Common.{◌≡◌, ℕ, suc, ◌+◌, ◌*◌, ◌/◌, ◌<◌, inl, inr, List, [], ◌∷◌, ◌++◌, length, take, drop, refl, sym, ◌∙◌, ap, subst, arith}
 use Rattle.std.specs.Prelude.{slice_index}
 use Rattle.std.proofs.lemmas.Bool.{cases_lt}
 use Rattle.pm_limits.specs.declared.TheConstants.{MAX_DEGREE}
@@ -28,7 +28,7 @@ use Rattle.pm_map.proofs.DegreeCounts.{degree_counts_darts}
 use Rattle.pm_map.proofs.DegreesTaken.{dart_of_degree}
 use Rattle.pm_open.specs.Opening.{IsOpening}
 use Rattle.pm_open.proofs.KeptByOpening.{kept_degrees, kept_edges}
-use Rattle.pm_euler.specs.Bounds.{code_bounds, quartic_choices, quartic_residues}
+use Rattle.pm_euler.specs.Bounds.{quartic_choices, quartic_residues}
 use Rattle.pm_euler.specs.Planted.{IsPlanted}
 use Rattle.pm_euler.specs.PlantedAnew.{IsPlantedAnew}
 use Rattle.pm_euler.specs.Closed.{IsCanonicalClosure}

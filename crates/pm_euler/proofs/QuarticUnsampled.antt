@@ -1,5 +1,5 @@
 -- What the code reads of a quartic map and a residue, and that it is the one list of choices.
-use Rattle.std.proofs.Common.{◌≡◌, ℕ, suc, ◌+◌, ◌-◌, ◌*◌, ◌/◌, ◌<◌, ◌≤◌, Bool, List, [], ◌∷◌, ◌++◌, length, take, drop, refl, sym, ◌∙◌, ap, subst, arith, take_all}
+use Rattle.std.proofs.Common.{◌≡◌, ℕ, suc, ◌+◌, ◌-◌, ◌*◌, ◌<◌, ◌≤◌, Bool, List, [], ◌∷◌, ◌++◌, length, take, drop, refl, sym, ◌∙◌, ap, subst, arith, take_all}
 use Rattle.std.specs.Prelude.{slice_index}
 use Rattle.pm_limits.specs.declared.TheConstants.{MAX_EDGES}
 use Rattle.pm_lists.specs.Valid.{IsValidList}
@@ -16,7 +16,7 @@ use Rattle.pm_map.specs.Classes.{IsQuartic}
 use Rattle.pm_map.specs.ClassRules.{IsQuarticAnswer}
 use Rattle.pm_canon.proofs.ExistenceLemmas.{canonical_map_exists}
 use Rattle.pm_open.specs.Opening.{IsOpening}
-use Rattle.pm_euler.specs.Bounds.{quartic_choices, quartic_residues, code_bounds}
+use Rattle.pm_euler.specs.Bounds.{quartic_choices, quartic_residues}
 use Rattle.pm_euler.specs.Quartic.{SamplesQuartic}
 use Rattle.pm_euler.specs.ShapeRead.{IsPlantedOf}
 use Rattle.pm_euler.specs.Unplanted.{IsUnplanted}

@@ -30,6 +30,8 @@ mod plane_planting_tests;
 #[cfg(test)]
 mod planting_tests;
 #[cfg(test)]
+mod quartic_unsampling_tests;
+#[cfg(test)]
 mod tests;
 #[cfg(test)]
 mod unplanting_tests;

@@ -36,7 +36,7 @@ fn digits(alloc: Global, sample: &Sample) -> Result<Vec<u8>, AllocError> {
 }
 
 // The list of this number among the valid ones.
-fn list_of(alloc: Global, limits: &[u64], number: u64) -> Result<Vec<u64>, AllocError> {
+pub(crate) fn list_of(alloc: Global, limits: &[u64], number: u64) -> Result<Vec<u64>, AllocError> {
     let mut rest = number;
     let mut choices = Vec::new(alloc);
     for limit in limits {

@@ -3,6 +3,7 @@ mod Descent
 mod Gathering
 pub mod Grafts
 pub mod Grown
+pub mod GrowthLaws
 pub mod Linking
 mod Noting
 mod Numbering

@@ -1,6 +1,5 @@
 use Rattle.std.proofs.Common.{◌≡◌, ℕ, suc, ◌-◌, Bool, List, [], ◌∷◌, ◌++◌, length, length-take, length-drop, take, drop, slice_index, sym, ◌∙◌, ap, ap₂, subst, arith, append_assoc}
 use Rattle.pm_map.specs.Rotation.{structure_of}
-use Rattle.pm_lehmer.specs.Lehmer.{IsArrangementOf}
 use Rattle.pm_euler.proofs.QuarticLists.{quartic_admitted}
 use Rattle.pm_euler.proofs.QuarticUnsampled.{residue_long, residue_parts, residue_code, residue_few, old_plant_low, shape_and_ranks_exist, ranks_as_many, IsShapeOfSize, shape_of_size, unsampled_from_parts}
 use Rattle.pm_euler.proofs.quartic_unsampling.unsample_of_class.Goals as goal

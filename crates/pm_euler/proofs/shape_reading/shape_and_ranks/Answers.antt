@@ -1,4 +1,4 @@
-use Rattle.std.proofs.Common.{◌≡◌, ℕ, suc, ◌-◌, List, length, All, IsTrue, refl, sym, subst, ◌∙◌, arith}
+use Rattle.std.proofs.Common.{◌≡◌, ℕ, ◌-◌, List, length, All, IsTrue, refl, sym, subst, ◌∙◌, arith}
 use Rattle.pm_trees.specs.Word.{is_letter}
 use Rattle.pm_euler.specs.Planted.{IsPlanted}
 use Rattle.pm_euler.proofs.SidesBehind.{IsReadFrom, read_start, read_leaf, read_bud, read_other, read_open, node_waits, root_waits, read_root}

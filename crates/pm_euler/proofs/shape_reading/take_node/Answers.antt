@@ -1,4 +1,4 @@
-use Rattle.std.proofs.Common.{ℕ, List, ◌≡◌, ◌++◌, ap, ◌∙◌, sym, subst, option_to_list, Option, reverse}
+use Rattle.std.proofs.Common.{ℕ, List, ◌++◌, ap, ◌∙◌, sym, subst, option_to_list, Option}
 use Rattle.pm_trees.specs.BudPattern.{IsPattern, HasRank}
 use Rattle.pm_euler.proofs.SidesBehind.{three_taken}
 use Rattle.pm_euler.proofs.shape_reading.take_node.Goals as goal
