@@ -13,9 +13,8 @@ use Rattle.pm_lehmer.specs.Lehmer.{code_of}
 use Rattle.pm_lehmer.proofs.Arranged.{IsArrangementOf-unique}
 use Rattle.pm_remy.specs.Tree.{Tree, labels_of, leaves}
 use Rattle.pm_remy.specs.Growth.{grown, IsChoices, IsGrowth}
-use Rattle.pm_remy.proofs.Grown.{counted-grown, grown-injective}
+use Rattle.pm_remy.proofs.Grown.{grown-injective}
 use Rattle.pm_remy.proofs.Ungrown.{labels-grown}
-use Rattle.pm_remy.proofs.Once.{counted-leaves}
 use Rattle.pm_remy.proofs.GrowthLaws.{growth_leaves}
 use Rattle.pm_remy.proofs.Reading.{same_tree}
 use Rattle.pm_map.specs.Rotation.{RotationSystem}
