@@ -1,5 +1,5 @@
 -- A quartic map and a residue come from exactly one list of choices.
-use Rattle.std.proofs.Common.{◌≡◌, ℕ, suc, ◌+◌, ◌*◌, ◌/◌, ◌<◌, inl, inr, List, [], ◌∷◌, ◌++◌, length, take, drop, refl, sym, ◌∙◌, ap, subst, arith}
+use Rattle.std.proofs.Common.{◌≡◌, ℕ, suc, ◌+◌, ◌*◌, ◌<◌, inl, inr, List, [], ◌∷◌, ◌++◌, length, take, drop, refl, sym, ◌∙◌, ap, subst, arith}
 use Rattle.std.specs.Prelude.{slice_index}
 use Rattle.std.proofs.lemmas.Bool.{cases_lt}
 use Rattle.pm_limits.specs.declared.TheConstants.{MAX_DEGREE}
@@ -15,8 +15,6 @@ use Rattle.pm_remy.proofs.Ungrown.{growth-ungrown}
 use Rattle.pm_trees.specs.Blossoming.{IsBlossoming, edges}
 use Rattle.pm_trees.specs.Blossoming.{leaves as tree_leaves}
 use Rattle.pm_trees.specs.Degrees.{nodes_of}
-use Rattle.pm_trees.specs.Replanting.{IsAlike}
-use Rattle.pm_trees.proofs.Replants.{replanted_alike}
 use Rattle.pm_map.specs.Structure.{Structure, IsStructure}
 use Rattle.pm_map.specs.Rotation.{RotationSystem, IsRootedMap, structure_of}
 use Rattle.pm_map.specs.Canonical.{IsCanonical}
@@ -43,7 +41,7 @@ use Rattle.pm_euler.proofs.QuarticChoices.{sample_from_parts, same_choices}
 use Rattle.pm_euler.proofs.QuarticMaps.{four_each}
 use Rattle.pm_euler.proofs.SameSides.{side_relabelled}
 use Rattle.pm_euler.proofs.SideTexts.{side_leaves}
-use Rattle.pm_euler.proofs.SomeUnplanting.{HasUnplanted, anew_exists, canonical_closes}
+use Rattle.pm_euler.proofs.SomeUnplanting.{HasUnplanted, anew_exists, canonical_closes, unplanted_degrees, unplanted_edges}
 
 -- no vertex of a quartic map has another degree
 quartic_no_other : (s : Structure) (n degree : ℕ) → IsStructure s → IsQuartic s n → (degree ≡ 4 → ⊥) → vertices_of_degree s degree ≡ 0
@@ -80,30 +78,22 @@ planted_of_size n word tree others size =
     let whole = planted_length read.tree read.ranks word read.is_planted in
     record { tree = read.tree; ranks = read.ranks; long = omega arith; is_planted = read.is_planted }
 
-opening_edges : (map : RotationSystem) (n : ℕ) (opening : List ℕ) → IsRootedMap map → IsQuartic (structure_of map) n → IsOpening map opening → edges opening ≡ 2 * n
-opening_edges map n opening rooted quartic is = let darts = quartic_darts map n rooted quartic in let kept = kept_edges map opening is in omega (arith, darts, kept)
-
-opening_no_other : (map : RotationSystem) (n : ℕ) (opening : List ℕ) → IsRootedMap map → IsQuartic (structure_of map) n → IsOpening map opening → (d : ℕ) → (d ≡ 4 → ⊥) → nodes_of opening d ≡ 0
-opening_no_other map n opening rooted quartic is d other = sym (kept_degrees map opening rooted is d) ∙ quartic_no_other (structure_of map) n d rooted.structure quartic other
-
 -- the opening of a quartic map has two leaves more than the map has vertices
 pub opening_leaves : (map : RotationSystem) (n : ℕ) (opening : List ℕ) → IsRootedMap map → IsQuartic (structure_of map) n → IsOpening map opening → tree_leaves opening ≡ n + 2
 opening_leaves map n opening rooted quartic is =
-    let read = planted_of_size n opening is.blossoming (opening_no_other map n opening rooted quartic is) (opening_edges map n opening rooted quartic is) in
+    let darts = quartic_darts map n rooted quartic in
+    let kept = kept_edges map opening is in
+    let read = planted_of_size n opening is.blossoming (λ d other. sym (kept_degrees map opening rooted is d) ∙ quartic_no_other (structure_of map) n d rooted.structure quartic other) (omega (arith, darts, kept)) in
     planted_leaves read.tree read.ranks opening read.is_planted ∙ ap (λ (k : ℕ). k + 2) read.long
 
--- the tree that is planted anew as the opening has as many edges
-pub unplanted_edges : (map : RotationSystem) (n old_plant : ℕ) (word : List ℕ) (free : ℕ) → IsRootedMap map → IsQuartic (structure_of map) n → IsUnplanted map old_plant word free → edges word ≡ 2 * n
-unplanted_edges map n old_plant word free rooted quartic is =
-    let alike : IsAlike word is.turned = replanted_alike word is.is_anew.leaf is.turned is.blossoming is.is_anew.is_replanted in
-    ap (λ (k : ℕ). suc k / 2) (sym alike.letters) ∙ opening_edges map n is.turned rooted quartic is.is_opening
+-- the tree that is planted anew as the opening is planted of a shape and as many ranks
+pub unplanted_size : (map : RotationSystem) (n old_plant : ℕ) (word : List ℕ) (free : ℕ) → IsRootedMap map → IsQuartic (structure_of map) n → IsUnplanted map old_plant word free → edges word ≡ 2 * n
+unplanted_size map n old_plant word free rooted quartic is = let darts = quartic_darts map n rooted quartic in let kept = unplanted_edges map old_plant word free rooted is in omega (arith, darts, kept)
 
--- it is planted of a shape and as many ranks as the map has vertices
 pub unplanted_reads : (map : RotationSystem) (n old_plant : ℕ) (word : List ℕ) (free : ℕ) → IsRootedMap map → IsQuartic (structure_of map) n → IsUnplanted map old_plant word free → IsPlantedOfSize n word
 unplanted_reads map n old_plant word free rooted quartic is =
-    let alike : IsAlike word is.turned = replanted_alike word is.is_anew.leaf is.turned is.blossoming is.is_anew.is_replanted in
-    planted_of_size n word is.blossoming (λ d other. sym (alike.degrees d) ∙ opening_no_other map n is.turned rooted quartic is.is_opening d other)
-    (unplanted_edges map n old_plant word free rooted quartic is)
+    planted_of_size n word is.blossoming (λ d other. unplanted_degrees map old_plant word free rooted is d ∙ quartic_no_other (structure_of map) n d rooted.structure quartic other)
+    (unplanted_size map n old_plant word free rooted quartic is)
 
 -- behind its first entry a valid residue is a code
 pub tail_is_code : (n old_plant : ℕ) (code : List ℕ) → IsValidList (old_plant ∷ code) (quartic_residues n) → IsArrangementCode code

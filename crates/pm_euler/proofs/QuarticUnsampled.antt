@@ -23,7 +23,7 @@ use Rattle.pm_euler.specs.Unplanted.{IsUnplanted}
 use Rattle.pm_euler.specs.Unsampling.{IsUnsampled}
 use Rattle.pm_euler.proofs.BoundLemmas.{length-code_bounds}
 use Rattle.pm_euler.proofs.PlantingTrees.{planted_length}
-use Rattle.pm_euler.proofs.QuarticLists.{opening_leaves, unplanted_edges, unplanted_reads, tail_is_code, sample_from_labels}
+use Rattle.pm_euler.proofs.QuarticLists.{opening_leaves, unplanted_size, unplanted_reads, tail_is_code, sample_from_labels}
 use Rattle.pm_euler.proofs.QuarticMaps.{quartic_size}
 use Rattle.pm_euler.proofs.SideTexts.{side_leaves}
 use Rattle.pm_euler.proofs.SomeUnplanting.{unplanted_closes}
@@ -72,7 +72,7 @@ pub ranks_as_many : (map : RotationSystem) (n old_plant : ℕ) (word : List ℕ)
     → IsPlantedOf word shape ranks → length ranks ≡ n
 ranks_as_many map n old_plant word free shape ranks rooted quartic is read =
     let whole = planted_length read.tree ranks word read.is_planted in
-    let size : edges word ≡ 2 * n = unplanted_edges map n old_plant word free rooted quartic is in
+    let size : edges word ≡ 2 * n = unplanted_size map n old_plant word free rooted quartic is in
     omega (arith, whole, size)
 
 -- the shape is that of a tree with so many forks
