@@ -11,6 +11,7 @@ pub mod EulerianParts
 pub mod EulerianSamples
 pub mod EulerianTrees
 pub mod FilledRows
+pub mod FoldedKinds
 pub mod FreeLeaves
 pub mod HalfCodes
 pub mod KindSides

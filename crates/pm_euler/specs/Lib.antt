@@ -1,6 +1,7 @@
 pub mod Bounds
 pub mod Closed
 pub mod Eulerian
+pub mod Folded
 pub mod Kinds
 pub mod Objects
 pub mod PlanePlanted
