@@ -1,12 +1,10 @@
 -- The word of a tree read from its end on tells the kinds of its objects.
-use Rattle.std.proofs.Common.{◌≡◌, ◌⊎◌, ℕ, suc, ◌+◌, ◌-◌, ◌*◌, ◌/◌, ◌<◌, ◌==◌, inl, inr, List, [], ◌∷◌, ◌++◌, length, drop, slice_index, All, refl, ap, ap₂, sym, ◌∙◌, subst, arith, append_assoc, append-nil, eq-eqb, ne_eqb}
-use Rattle.std.proofs.lemmas.Bool.{cases_eq}
-use Rattle.std.proofs.lemmas.List.Elements.{All-nil, All-cons, All-head, All-tail}
+use Rattle.std.proofs.Common.{◌≡◌, ◌⊎◌, ℕ, ◌+◌, ◌==◌, inl, inr, List, [], ◌∷◌, ◌++◌, length, All, refl, ap, ap₂, sym, ◌∙◌, subst, arith, append_assoc, append-nil, eq-eqb, ne_eqb}
+use Rattle.std.proofs.lemmas.List.Elements.{All-head, All-tail}
 use Rattle.std.proofs.lemmas.List.Sums.{count_by-le-length}
 use Rattle.pm_trees.specs.declared.letters.TheConstants.{LEAF, BUD, OPEN, CLOSE}
 use Rattle.pm_trees.specs.declared.patterns.TheConstants.{SLOT}
-use Rattle.pm_trees.specs.BudPattern.{IsPattern, HasRank, IsHalfDegree, half_degree}
-use Rattle.pm_trees.proofs.Ranked.{patterns_ranked}
+use Rattle.pm_trees.specs.BudPattern.{IsPattern, HasRank}
 use Rattle.pm_trees.proofs.Tally.{tally, tally_is, tally_yes, tally_no}
 use Rattle.pm_euler.specs.Folded.{front_of, behind, fold_letter, folded, AreKindsAlong}
 use Rattle.pm_euler.specs.Folded.AreKindsAlong.{ended, a_leaf, a_node, no_object}

@@ -34,6 +34,7 @@ pub mod QuarticLists
 pub mod QuarticMaps
 pub mod QuarticSamples
 pub mod QuarticUnsampled
+pub mod ReadingSteps
 pub mod RootRows
 pub mod Rows
 pub mod SameCounts

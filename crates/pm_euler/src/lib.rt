@@ -9,6 +9,7 @@ mod map_class;
 mod map_profile;
 mod objects;
 mod plane_planting;
+mod plane_reading;
 mod planting;
 mod quartic;
 mod quartic_unsampling;
