@@ -16,6 +16,7 @@ pub mod FreeLeaves
 pub mod HalfCodes
 pub mod KindSides
 pub mod ObjectLemmas
+pub mod ObjectPlaces
 pub mod ObjectSums
 pub mod ObjectsFound
 pub mod OneSample

@@ -3,7 +3,7 @@ use Rattle.std.proofs.Common.{◌≡◌, ◌⊎◌, ℕ, zero, suc, ◌<◌, ◌
 use Rattle.std.specs.Prelude.{count_by, slice_index}
 use Rattle.std.specs.List.{sum_by}
 use Rattle.std.proofs.lemmas.Bool.{cases_eq, cases_Bool}
-use Rattle.std.proofs.lemmas.List.{nil_from_length}
+use Rattle.std.proofs.lemmas.List.{nil_from_length, get_or-map}
 use Rattle.std.proofs.lemmas.List.Elements.{All-head, All-tail}
 use Rattle.std.proofs.lemmas.List.Sums.{sum_by-cons}
 use Rattle.pm_perm.specs.Lists.{Stands}
@@ -194,3 +194,29 @@ stands_turned start xs n s = elim (stands_in_one (take start xs) (drop start xs)
   | inl front ↦ stands_back (drop start xs) (take start xs) n front
   | inr back ↦ stands_front (drop start xs) (take start xs) n back
 ]
+
+-- an entry is found in the list of its key, behind the earlier entries with this key
+pub entry_with_key : (key : ℕ → ℕ) (k : ℕ) (entries : List ℕ) (place : ℕ) → place < length entries → key (slice_index entries place) ≡ k
+    → slice_index (with_key key k entries) (count_by (λ y. y == k) (take place (map key entries))) ≡ slice_index entries place
+entry_with_key key k [] place less e = absurd (omega (arith, less))
+entry_with_key key k (x ∷ xs) zero less e = ap (λ (list : List ℕ). slice_index list 0) (with_key_yes key k x xs e)
+entry_with_key key k (x ∷ xs) (suc place) less e =
+    let h = entry_with_key key k xs place (omega (arith, less)) e in
+    elim (cases_eq (key x) k) [
+      | inl here ↦
+          ap (slice_index (with_key key k (x ∷ xs))) (count_yes k (key x) (take place (map key xs)) here)
+          ∙ ap (λ (list : List ℕ). slice_index list (suc (count_by (λ y. y == k) (take place (map key xs))))) (with_key_yes key k x xs here) ∙ h
+      | inr other ↦
+          ap (slice_index (with_key key k (x ∷ xs))) (count_no k (key x) (take place (map key xs)) other)
+          ∙ ap (λ (list : List ℕ). slice_index list (count_by (λ y. y == k) (take place (map key xs)))) (with_key_no key k x xs other) ∙ h
+    ]
+
+-- so the entries are where the lists have them
+pub sorted_at : (key : ℕ → ℕ) (keys : List ℕ) (lists : ℕ → List ℕ) (entries : List ℕ) (place : ℕ) → IsSorting key keys lists entries → place < length entries
+    → slice_index entries place ≡ slice_index (lists (slice_index keys place)) (count_by (λ y. y == slice_index keys place) (take place keys))
+sorted_at key keys lists entries place s less =
+    let keys_are = s.keys_are in
+    let here : key (slice_index entries place) ≡ slice_index keys place = sym (get_or-map key entries place 0 0 less) ∙ ap (λ (ks : List ℕ). slice_index ks place) keys_are in
+    sym (entry_with_key key (slice_index keys place) entries place less here)
+    ∙ ap (λ (list : List ℕ). slice_index list (count_by (λ y. y == slice_index keys place) (take place (map key entries)))) (s.lists_are (slice_index keys place))
+    ∙ ap (λ (ks : List ℕ). slice_index (lists (slice_index keys place)) (count_by (λ y. y == slice_index keys place) (take place ks))) keys_are

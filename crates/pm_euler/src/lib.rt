@@ -7,6 +7,7 @@ mod closing;
 mod eulerian;
 mod map_class;
 mod map_profile;
+mod object_order;
 mod objects;
 mod plane_planting;
 mod plane_reading;

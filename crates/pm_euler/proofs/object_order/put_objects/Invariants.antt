@@ -1,0 +1,7 @@
+use Rattle.std.proofs.Common.{◌≡◌, ℕ, ◌<◌, ◌==◌, List, length, slice_index, slice_index_or, count_by, take, IfOk, ◌+◌, ◌-◌, ◌*◌, ◌≤◌}
+use Rattle.pm_perm.specs.Permutation.{IsPermutationList}
+use Rattle.pm_euler.proofs.ObjectPlaces.{ArePut}
+use Rattle.pm_euler.proofs.object_order.put_objects.Given as goal
+
+abbrev pub invariant-kinds : goal.invariant-kinds
+invariant-kinds l = ArePut l.kinds l.half l.list l.fn.objects l.objects l.next l.place
