@@ -68,44 +68,52 @@ some_entry : (list : List ℕ) → 0 < length list → (first : ℕ) × (later :
 some_entry [] some = absurd (omega arith)
 some_entry (first ∷ later) some = (first, later, refl)
 
+-- one key more, with the first entry of its list
+module _ (key : ℕ → ℕ) (k : ℕ) (keys : List ℕ) (lists : ℕ → List ℕ) (first : ℕ) (later : List ℕ) (list_is : lists k ≡ first ∷ later) where
+  later_long : ((n : ℕ) → length (lists n) ≡ count_by (λ y. y == n) (k ∷ keys)) → (n : ℕ) → length (instead lists k later n) ≡ count_by (λ y. y == n) keys
+  later_long long n = elim (cases_eq n k) [
+    | inl is ↦
+        let a = ap length (instead_here lists k later n is) in
+        let b = ap length (ap lists is ∙ list_is) in
+        let c = long n in
+        let d = count_yes n k keys (sym is) in
+        omega (arith, a, b, c, d)
+    | inr apart ↦
+        let a = ap length (instead_other lists k later n apart) in
+        let b = long n in
+        let c = count_no n k keys (λ e. apart (sym e)) in
+        omega (arith, a, b, c)
+  ]
+
+  first_keys : ((n : ℕ) → All (λ entry. key entry ≡ n) (lists n)) → All (λ entry. key entry ≡ k) (first ∷ later)
+  first_keys each = subst (λ (list : List ℕ). All (λ entry. key entry ≡ k) list) list_is (each k)
+
+  later_keys : ((n : ℕ) → All (λ entry. key entry ≡ n) (lists n)) → (n : ℕ) → All (λ entry. key entry ≡ n) (instead lists k later n)
+  later_keys each n = elim (cases_eq n k) [
+    | inl is ↦ subst (λ (list : List ℕ). All (λ entry. key entry ≡ n) list) (sym (instead_here lists k later n is))
+        (subst (λ (m : ℕ). All (λ entry. key entry ≡ m) later) (sym is) (All-tail (λ entry. key entry ≡ k) first later (first_keys each)))
+    | inr apart ↦ subst (λ (list : List ℕ). All (λ entry. key entry ≡ n) list) (sym (instead_other lists k later n apart)) (each n)
+  ]
+
+  sorted_more : (entries : List ℕ) → key first ≡ k → IsSorting key keys (instead lists k later) entries → IsSorting key (k ∷ keys) lists (first ∷ entries)
+  sorted_more entries key_is s = record {
+    keys_are = let r = s.keys_are in cc;
+    lists_are = λ n. elim (cases_eq n k) [
+      | inl is ↦
+          with_key_yes key n first entries (key_is ∙ sym is) ∙ ap (λ (list : List ℕ). first ∷ list) (s.lists_are n ∙ instead_here lists k later n is) ∙ sym list_is ∙ ap lists (sym is)
+      | inr apart ↦ with_key_no key n first entries (λ e. apart (sym e ∙ key_is)) ∙ s.lists_are n ∙ instead_other lists k later n apart
+    ];
+  }
+
 pub sorting_exists : (key : ℕ → ℕ) (keys : List ℕ) (lists : ℕ → List ℕ) → ((k : ℕ) → length (lists k) ≡ count_by (λ y. y == k) keys) → ((k : ℕ) → All (λ entry. key entry ≡ k) (lists k))
     → (entries : List ℕ) × IsSorting key keys lists entries
 sorting_exists key [] lists long each = ([], record { keys_are = refl; lists_are = λ k. sym (nil_from_length (lists k) (long k)) })
 sorting_exists key (k ∷ keys) lists long each =
     let counted = count_yes k k keys refl in
     let some = some_entry (lists k) (let l = long k in omega (arith, l, counted)) in
-    let first : ℕ = some.0 in
-    let others : ℕ → List ℕ = instead lists k some.1 in
-    let all : All (λ entry. key entry ≡ k) (some.0 ∷ some.1) = subst (λ (list : List ℕ). All (λ entry. key entry ≡ k) list) some.2 (each k) in
-    let key_is : key some.0 ≡ k = All-head (λ entry. key entry ≡ k) some.0 some.1 all in
-    let h = sorting_exists key keys (instead lists k some.1)
-    (λ n. elim (cases_eq n k) [
-      | inl is ↦
-          let a = ap length (instead_here lists k some.1 n is) in
-          let b = ap length some.2 in
-          let c = long k in
-          let d = ap (λ (m : ℕ). count_by (λ y. y == m) keys) is in
-          omega (arith, a, b, c, d, counted)
-      | inr apart ↦
-          let a = ap length (instead_other lists k some.1 n apart) in
-          let b = long n in
-          let c = count_no n k keys (λ e. apart (sym e)) in
-          omega (arith, a, b, c)
-    ])
-    (λ n. elim (cases_eq n k) [
-      | inl is ↦ subst (λ (list : List ℕ). All (λ entry. key entry ≡ n) list) (sym (instead_here lists k some.1 n is))
-          (subst (λ (m : ℕ). All (λ entry. key entry ≡ m) some.1) (sym is) (All-tail (λ entry. key entry ≡ k) some.0 some.1 all))
-      | inr apart ↦ subst (λ (list : List ℕ). All (λ entry. key entry ≡ n) list) (sym (instead_other lists k some.1 n apart)) (each n)
-    ]) in (
+    let h = sorting_exists key keys (instead lists k some.1) (later_long key k keys lists some.0 some.1 some.2 long) (later_keys key k keys lists some.0 some.1 some.2 each) in (
       some.0 ∷ h.0,
-      record {
-        keys_are = let r = h.1.keys_are in cc;
-        lists_are = λ n. elim (cases_eq n k) [
-          | inl is ↦
-              with_key_yes key n some.0 h.0 (key_is ∙ sym is) ∙ ap (λ (list : List ℕ). some.0 ∷ list) (h.1.lists_are n ∙ instead_here lists k some.1 n is) ∙ sym some.2 ∙ ap lists (sym is)
-          | inr apart ↦ with_key_no key n some.0 h.0 (λ e. apart (sym e ∙ key_is)) ∙ h.1.lists_are n ∙ instead_other lists k some.1 n apart
-        ];
-      },
+      sorted_more key k keys lists some.0 some.1 some.2 h.0 (All-head (λ entry. key entry ≡ k) some.0 some.1 (first_keys key k keys lists some.0 some.1 some.2 each)) h.1,
     )
 
 -- what stands in the rest stands in the list
