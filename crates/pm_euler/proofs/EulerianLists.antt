@@ -120,7 +120,6 @@ module _ (pairs : List (ℕ × ℕ)) (xs ys : List ℕ) (is : IsProfile pairs) (
 same_rank : (halves ranks others objects : List ℕ) (object : ℕ) → kinds_of halves ranks objects ≡ kinds_of halves others objects → Stands objects object → 0 < half_of halves object
     → slice_index_or ranks object 0 ≡ slice_index_or others object 0
 same_rank halves ranks others objects object same stands some =
-    let place : ℕ = stands.0 in
     let here = stands.1.here in
     let at : (some_ranks : List ℕ) → get_or (kinds_of halves some_ranks objects) stands.0 (0, 0) ≡ kind_of halves some_ranks object =
     λ some_ranks. get_or-map (kind_of halves some_ranks) objects stands.0 0 (0, 0) stands.1.within ∙ ap (kind_of halves some_ranks) here in

@@ -106,14 +106,13 @@ module _ (pairs kinds : List (ℕ × ℕ)) (objects ranks : List ℕ) (is : IsPr
 ranks_exist : (pairs kinds : List (ℕ × ℕ)) (objects : List ℕ) → IsProfile pairs → All IsKind kinds → IsPermutationList objects → half_degrees (halves_of pairs) objects ≡ halves_in kinds → length objects ≡ suc (edges_of pairs)
     → nodes_of_profile pairs < suc (edges_of pairs) → (ranks : List ℕ) × AreRanksOf pairs kinds objects ranks
 ranks_exist pairs kinds objects is right permute halves many few =
-    let place : ℕ → ℕ = place_of (slice_index objects) (length objects) in
     let rank : ℕ → ℕ = λ object. (get_or kinds (place_of (slice_index objects) (length objects) object) (0, 0)).1 in
     let ranks : List ℕ = map rank (numbers (nodes_of_profile pairs)) in (
-      map (λ object. (get_or kinds (place_of (slice_index objects) (length objects) object) (0, 0)).1) (numbers (nodes_of_profile pairs)),
-      ranks_of pairs kinds objects (map (λ object. (get_or kinds (place_of (slice_index objects) (length objects) object) (0, 0)).1) (numbers (nodes_of_profile pairs))) is right permute halves
-          (length-map-range_with_len (λ object. (get_or kinds (place_of (slice_index objects) (length objects) object) (0, 0)).1) 0 (nodes_of_profile pairs))
+      ranks,
+      ranks_of pairs kinds objects ranks is right permute halves
+          (length-map-range_with_len rank 0 (nodes_of_profile pairs))
           (λ k less node.
-          get_or-map-range_with_len (λ object. (get_or kinds (place_of (slice_index objects) (length objects) object) (0, 0)).1) 0 (nodes_of_profile pairs) (slice_index objects k) (slice_index objects k) 0 node (omega arith)
+          get_or-map-range_with_len rank 0 (nodes_of_profile pairs) (slice_index objects k) (slice_index objects k) 0 node (omega arith)
           ∙ ap (λ (n : ℕ). (get_or kinds n (0, 0)).1) (place_of-of_value (slice_index objects) (length objects) k permute less))
           many few,
     )

@@ -64,14 +64,14 @@ kind_at kinds k less is =
       | of_node some few ↦ same_pair (get_or kinds k (0, 0)) (half_of (halves_in kinds) k, get_or (ranks_in kinds) k 0) (sym half) (sym rank) ∙ sym (kind_node (halves_in kinds) (ranks_in kinds) k (omega (arith, half, some)))
     ]
 
-places_kinds : (kinds : List (ℕ × ℕ)) (texts : List (List ℕ)) (word : List ℕ) → IsWordOfKinds kinds word → kinds_of (halves_in kinds) (ranks_in kinds) (numbers (length kinds)) ≡ kinds
-places_kinds kinds texts word h =
+places_kinds : (kinds : List (ℕ × ℕ)) (word : List ℕ) → IsWordOfKinds kinds word → kinds_of (halves_in kinds) (ranks_in kinds) (numbers (length kinds)) ≡ kinds
+places_kinds kinds word h =
     sym (fill_by_all (kind_of (halves_in kinds) (ranks_in kinds)) kinds (length kinds) (0, 0) refl
     (λ k less. kind_at kinds k less (kinds_each kinds ((OPEN ∷ word ++ CLOSE ∷ []) ∷ []) h k (0, 0) less)))
 
 module _ (kinds : List (ℕ × ℕ)) (word : List ℕ) (h : IsWordOfKinds kinds word) where
   same_places : kinds_of (halves_in kinds) (ranks_in kinds) (numbers (length kinds)) ≡ kinds
-  same_places = places_kinds kinds [] word h
+  same_places = places_kinds kinds word h
 
   plane : IsPlantedPlane (halves_in kinds) (ranks_in kinds) (numbers (length kinds)) word
   plane = kinds_sides (halves_in kinds) (ranks_in kinds) kinds ((OPEN ∷ word ++ CLOSE ∷ []) ∷ []) (numbers (length kinds)) h same_places
@@ -90,7 +90,6 @@ module _ (kinds : List (ℕ × ℕ)) (word : List ℕ) (h : IsWordOfKinds kinds 
 -- the half degrees of the objects of a profile
 profile_long : (pairs : List (ℕ × ℕ)) → IsProfile pairs → length (half_degrees (halves_of pairs) (numbers (suc (edges_of pairs)))) ≡ suc (sum (half_degrees (halves_of pairs) (numbers (suc (edges_of pairs)))))
 profile_long pairs is =
-    let m : ℕ = suc (edges_of pairs) in
     let few = halves_few pairs is in
     omega (
       arith,

@@ -29,7 +29,6 @@ use Rattle.pm_euler.proofs.Sorting.{IsSorting, sorting_exists, stands_kept, stan
 -- a list that is turned on to its end is as it was
 pub turn_on : (start : ℕ) (xs : List ℕ) → start ≤ length xs → turned start (turned (length xs - start) xs) ≡ xs
 turn_on start xs few =
-    let n : ℕ = length xs - start in
     let long : length (drop (length xs - start) xs) ≡ start = (let l = length-drop (length xs - start) xs in omega (arith, l, few)) in
     ap₂ (λ (us vs : List ℕ). us ++ vs) (drop_at (drop (length xs - start) xs) (take (length xs - start) xs) start long) (take_at (drop (length xs - start) xs) (take (length xs - start) xs) start long)
     ∙ take-append-drop (length xs - start) xs
@@ -188,7 +187,6 @@ module _ (pairs : List (ℕ × ℕ)) (is : IsProfile pairs) (halves : List ℕ) 
   pub objects_found : (start : ℕ) → start < suc (edges_of pairs) → AreFound pairs halves start codes
   objects_found start less =
       let few : start ≤ length sorted.0 = omega (arith, less, sorted_long) in
-      let back : ℕ = length sorted.0 - start in
       let long : length (turned (length sorted.0 - start) sorted.0) ≡ length sorted.0 = length-turned (length sorted.0 - start) sorted.0 (omega arith) in
       record {
         objects = sorted.0;
