@@ -6,10 +6,10 @@ use Rattle.std.proofs.lemmas.List.{take_all}
 use Rattle.pm_trees.specs.Pairs.{IsRightPair, IsProfile}
 use Rattle.pm_euler.specs.Quartic.{IsQuarticSize}
 use Rattle.pm_cli.specs.declared.words.Command.{Command}
-use Rattle.pm_cli.specs.declared.words.Command.TheVariants.{CloseEulerian, OpenEulerian, Canon, CheckGeneral, SampleQuartic, SampleEulerian}
+use Rattle.pm_cli.specs.declared.words.Command.TheVariants.{CloseEulerian, OpenEulerian, Canon, CheckGeneral, SampleQuartic, SampleEulerian, UnsampleQuartic}
 use Rattle.pm_cli.specs.Commands.{spelling, IsCommand, Spells, Begins, IsNoCommand}
 use Rattle.pm_cli.specs.ProfileWord.{profile_text}
-use Rattle.pm_cli.proofs.Verbs.{Verb, closing, opening, canonizing, checking, sampling, drawing, word_of, words_with, verb_of, IsCheck, check_general, check_quartic, check_eulerian, IsSample, sample_quartic, sample_eulerian, begins, long, same_verb, verb_is}
+use Rattle.pm_cli.proofs.Verbs.{Verb, closing, opening, canonizing, checking, sampling, unsampling, drawing, word_of, words_with, verb_of, IsCheck, check_general, check_quartic, check_eulerian, IsSample, sample_quartic, sample_eulerian, IsUnsample, unsample_quartic, unsample_eulerian, begins, long, same_verb, verb_is}
 use Rattle.pm_cli.proofs.WordPlaces.{front}
 
 -- words are no command, where a command begins with the first k of them and none with one more
@@ -43,6 +43,7 @@ more_words ws command k is e same more =
       some canonizing = omega arith
       some checking = omega arith
       some sampling = omega arith
+      some unsampling = omega arith
       some drawing = omega arith
 
       none : (other : Command) → take (suc k) ws ≡ take (suc k) (spelling other) → ⊥
@@ -89,6 +90,17 @@ pub check_alone : (ws : List (List ℕ)) → take 1 ws ≡ codes "check" ∷ [] 
 check_alone ws first general quartic eulerian =
     stops_at ws 1 (record { command = CheckGeneral; is_command = tt; within = some_words ws 1 (ap length first); same = first })
     (λ command is e. no_check ws general quartic eulerian command (verb_is 2 ws checking command (omega arith) first e) e)
+
+no_unsample : (ws : List (List ℕ)) → (take 2 ws ≡ codes "unsample" ∷ codes "quartic" ∷ [] → ⊥) → (take 2 ws ≡ codes "unsample" ∷ codes "eulerian" ∷ [] → ⊥)
+    → (command : Command) → IsUnsample command → take 2 ws ≡ take 2 (spelling command) → ⊥
+no_unsample ws quartic eulerian _ unsample_quartic e = quartic e
+no_unsample ws quartic eulerian _ unsample_eulerian e = eulerian e
+
+-- `unsample` alone, or with another class
+pub unsample_alone : (ws : List (List ℕ)) → take 1 ws ≡ codes "unsample" ∷ [] → (take 2 ws ≡ codes "unsample" ∷ codes "quartic" ∷ [] → ⊥) → (take 2 ws ≡ codes "unsample" ∷ codes "eulerian" ∷ [] → ⊥) → IsNoCommand ws 1
+unsample_alone ws first quartic eulerian =
+    stops_at ws 1 (record { command = UnsampleQuartic; is_command = tt; within = some_words ws 1 (ap length first); same = first })
+    (λ command is e. no_unsample ws quartic eulerian command (verb_is 2 ws unsampling command (omega arith) first e) e)
 
 -- where no sampling begins with one word more, no command does
 module _ (ws : List (List ℕ)) (k : ℕ) (first : take 1 ws ≡ codes "sample" ∷ [])

@@ -7,7 +7,7 @@ use Rattle.pm_io.specs.Bytes.{added}
 use Rattle.pm_io.specs.Faults.{FaultsRose}
 use Rattle.pm_map.specs.Rotation.{RotationSystem}
 use Rattle.pm_cli.specs.declared.words.Command.{Command}
-use Rattle.pm_cli.specs.declared.words.Command.TheVariants.{CloseEulerian, OpenEulerian, Canon, CheckGeneral, CheckQuartic, CheckEulerian, SampleQuartic, SampleEulerian, DrawQuartic, DrawEulerian}
+use Rattle.pm_cli.specs.declared.words.Command.TheVariants.{CloseEulerian, OpenEulerian, Canon, CheckGeneral, CheckQuartic, CheckEulerian, SampleQuartic, SampleEulerian, UnsampleQuartic, UnsampleEulerian, DrawQuartic, DrawEulerian}
 use Rattle.pm_cli.specs.declared.refusal.Limit.TheVariants.{Bytes, Letters, Edges}
 use Rattle.pm_cli.specs.declared.refusal.Refusal.{Refusal}
 use Rattle.pm_cli.specs.declared.refusal.Refusal.TheVariants.{Usage, Text, Limited, Map, Tree, Invalid}
@@ -39,6 +39,8 @@ reads_input CheckQuartic other another = refl
 reads_input CheckEulerian other another = refl
 reads_input (SampleQuartic size) other another = refl
 reads_input (SampleEulerian profile) other another = refl
+reads_input UnsampleQuartic other another = refl
+reads_input UnsampleEulerian other another = refl
 reads_input (DrawQuartic size seed count) other another = absurd (other size seed count refl)
 reads_input (DrawEulerian profile seed count) other another = absurd (another profile seed count refl)
 

@@ -11,6 +11,7 @@ pub mod OneMapAnswer
 pub mod OneOpening
 pub mod OneSampling
 pub mod OneText
+pub mod OneUnsampling
 pub mod OpenedAgain
 pub mod PairTexts
 pub mod Records

@@ -3,15 +3,17 @@ use Rattle.std.proofs.Common.{◌≡◌, ℕ, true, false, List, refl, sym, ap, 
 use Rattle.std.specs.Prelude.{◌/◌, Result, Err}
 use Rattle.pm_limits.specs.declared.TheConstants.{MAX_EDGES}
 use Rattle.pm_map.specs.ClassRules.{IsQuarticAnswer}
-use Rattle.pm_euler.specs.Bounds.{quartic_choices, eulerian_choices}
+use Rattle.pm_euler.specs.Bounds.{quartic_choices, quartic_residues, eulerian_choices, eulerian_residues}
 use Rattle.pm_euler.specs.Quartic.{SamplesQuartic}
 use Rattle.pm_euler.specs.Eulerian.{IsEulerianAnswer, SamplesEulerian}
+use Rattle.pm_euler.proofs.EulerianLists.{one_eulerian_list}
 use Rattle.pm_euler.proofs.EulerianMaps.{one_eulerian_answer}
 use Rattle.pm_euler.proofs.EulerianSamples.{one_eulerian_sample}
 use Rattle.pm_euler.proofs.OneSample.{one_quartic_sample}
-use Rattle.pm_euler.proofs.QuarticMaps.{one_quartic_answer}
+use Rattle.pm_euler.proofs.QuarticLists.{one_quartic_list}
+use Rattle.pm_euler.proofs.QuarticMaps.{quartic_size, one_quartic_answer}
 use Rattle.pm_cli.specs.declared.words.Command.{Command}
-use Rattle.pm_cli.specs.declared.words.Command.TheVariants.{CloseEulerian, OpenEulerian, Canon, CheckGeneral, CheckQuartic, CheckEulerian, SampleQuartic, SampleEulerian, DrawQuartic, DrawEulerian}
+use Rattle.pm_cli.specs.declared.words.Command.TheVariants.{CloseEulerian, OpenEulerian, Canon, CheckGeneral, CheckQuartic, CheckEulerian, SampleQuartic, SampleEulerian, UnsampleQuartic, UnsampleEulerian, DrawQuartic, DrawEulerian}
 use Rattle.pm_cli.specs.declared.refusal.Refusal.{Refusal}
 use Rattle.pm_cli.specs.declared.refusal.Refusal.TheVariants.{Usage}
 use Rattle.pm_cli.specs.MapCommands.{HasCanonicalText, IsCountsText}
@@ -23,6 +25,7 @@ use Rattle.pm_cli.proofs.OneCommand.{one_command}
 use Rattle.pm_cli.proofs.OneMapAnswer.{one_canonical_text, one_counts_text, map_answers_once, class_answers_once}
 use Rattle.pm_cli.proofs.OneOpening.{opens_once}
 use Rattle.pm_cli.proofs.OneSampling.{samples_once, draws_once}
+use Rattle.pm_cli.proofs.OneUnsampling.{unsamples_once}
 
 -- a command has one answer to a file
 answers_once : (command : Command) → IsCommand command → (bytes : List ℕ) (a b : Result (List ℕ) Refusal) → CommandAnswers command bytes a → CommandAnswers command bytes b → a ≡ b
@@ -35,6 +38,10 @@ answers_once CheckEulerian is bytes a b x y = class_answers_once IsEulerianAnswe
 answers_once (SampleQuartic size) is bytes a b x y = samples_once (quartic_choices size) (SamplesQuartic size) (one_quartic_sample size is) (λ choices m r h. h.valid) bytes a b x y
 answers_once (SampleEulerian profile) is bytes a b x y =
     samples_once (eulerian_choices profile) (SamplesEulerian profile) (one_eulerian_sample profile is) (λ choices m r h. h.valid) bytes a b x y
+answers_once UnsampleQuartic is bytes a b x y =
+    unsamples_once quartic_choices quartic_residues SamplesQuartic IsQuarticAnswer one_quartic_answer (λ m n rooted h. one_quartic_list n (quartic_size m n rooted h)) bytes a b x y
+answers_once UnsampleEulerian is bytes a b x y =
+    unsamples_once eulerian_choices eulerian_residues SamplesEulerian IsEulerianAnswer one_eulerian_answer (λ m pairs rooted h. one_eulerian_list pairs h.0) bytes a b x y
 answers_once (DrawQuartic size seed count) is bytes a b x y =
     draws_once (quartic_choices size) (SamplesQuartic size) (one_quartic_sample size is.0) (λ choices m r h. h.valid) seed count a b x y
 answers_once (DrawEulerian profile seed count) is bytes a b x y =

@@ -4,12 +4,12 @@ use Rattle.std.proofs.lemmas.Fmt.{decimal_injective}
 use Rattle.std.specs.Prelude.{decimal}
 use Rattle.pm_euler.specs.Quartic.{IsQuarticSize}
 use Rattle.pm_cli.specs.declared.words.Command.{Command}
-use Rattle.pm_cli.specs.declared.words.Command.TheVariants.{CheckGeneral, CheckQuartic, CheckEulerian, SampleQuartic, SampleEulerian, DrawQuartic, DrawEulerian}
+use Rattle.pm_cli.specs.declared.words.Command.TheVariants.{CheckGeneral, CheckQuartic, CheckEulerian, SampleQuartic, SampleEulerian, UnsampleQuartic, UnsampleEulerian, DrawQuartic, DrawEulerian}
 use Rattle.pm_cli.specs.Commands.{spelling, AreDrawNumbers, IsCommand}
 use Rattle.pm_cli.proofs.NumberWords.{third_of_five, fourth_of_five, fifth}
 use Rattle.pm_cli.proofs.PairTexts.{one_profile}
 use Rattle.pm_cli.proofs.CommandWords.{second_letter}
-use Rattle.pm_cli.proofs.Verbs.{Verb, closing, opening, canonizing, checking, sampling, drawing, verb_of, IsCheck, check_general, check_quartic, check_eulerian, IsSample, sample_quartic, sample_eulerian, IsDraw, draw_quartic, draw_eulerian, HasVerb, has_verb, begins, verb_is}
+use Rattle.pm_cli.proofs.Verbs.{Verb, closing, opening, canonizing, checking, sampling, unsampling, drawing, verb_of, IsCheck, check_general, check_quartic, check_eulerian, IsSample, sample_quartic, sample_eulerian, IsUnsample, unsample_quartic, unsample_eulerian, IsDraw, draw_quartic, draw_eulerian, HasVerb, has_verb, begins, verb_is}
 use Rattle.pm_cli.proofs.WordPlaces.{same_third}
 
 -- commands whose second words differ in the first letter
@@ -51,6 +51,13 @@ one_sample _ _ (sample_quartic a) (sample_eulerian b) is other same = absurd (ap
 one_sample _ _ (sample_eulerian a) (sample_quartic b) is other same = absurd (apart 101 113 (SampleEulerian a) (SampleQuartic b) refl refl (λ e. omega arith) same)
 one_sample _ _ (sample_eulerian a) (sample_eulerian b) is other same = ap SampleEulerian (one_profile a b is other (same_third same))
 
+one_unsample : (command other : Command) → IsUnsample command → IsUnsample other → spelling command ≡ spelling other → command ≡ other
+unfolding second_letter
+one_unsample _ _ unsample_quartic unsample_quartic same = refl
+one_unsample _ _ unsample_quartic unsample_eulerian same = absurd (apart 113 101 UnsampleQuartic UnsampleEulerian refl refl (λ e. omega arith) same)
+one_unsample _ _ unsample_eulerian unsample_quartic same = absurd (apart 101 113 UnsampleEulerian UnsampleQuartic refl refl (λ e. omega arith) same)
+one_unsample _ _ unsample_eulerian unsample_eulerian same = refl
+
 one_draw : (command other : Command) → IsDraw command → IsDraw other → IsCommand command → IsCommand other → spelling command ≡ spelling other → command ≡ other
 unfolding second_letter
 one_draw _ _ (draw_quartic a s c) (draw_quartic b t d) is other same =
@@ -67,6 +74,7 @@ one_with opening command other x y is is_other same = x ∙ sym y
 one_with canonizing command other x y is is_other same = x ∙ sym y
 one_with checking command other x y is is_other same = one_check command other x y same
 one_with sampling command other x y is is_other same = one_sample command other x y is is_other same
+one_with unsampling command other x y is is_other same = one_unsample command other x y same
 one_with drawing command other x y is is_other same = one_draw command other x y is is_other same
 
 pub one_command : (command other : Command) → IsCommand command → IsCommand other → spelling command ≡ spelling other → command ≡ other

@@ -2,6 +2,8 @@
 use Rattle.std.proofs.Common.{◌≡◌, ℕ, List, refl, sym, ap, ◌∙◌, subst}
 use Rattle.std.specs.Prelude.{Option, Result, Ok, Err}
 use Rattle.pm_limits.specs.declared.TheConstants.{MAX_EDGES}
+use Rattle.pm_text.specs.Broken.{IsBrokenLine}
+use Rattle.pm_map.specs.declared.refusal.MapRefusal.{MapRefusal}
 use Rattle.pm_map.specs.declared.refusal.MapRefusal.TheVariants as made
 use Rattle.pm_map.specs.declared.class_refusal.ClassRefusal.{ClassRefusal}
 use Rattle.pm_map.specs.declared.class_refusal.ClassRefusal.TheVariants as class
@@ -9,6 +11,7 @@ use Rattle.pm_map.specs.Rotation.{RotationSystem, IsRootedMap}
 use Rattle.pm_map.proofs.UniqueCanonical.{canonical_map_is_unique}
 use Rattle.pm_mapfile.specs.declared.refusal.FileRefusal.{FileRefusal}
 use Rattle.pm_mapfile.specs.declared.refusal.FileRefusal.TheVariants as reading
+use Rattle.pm_mapfile.specs.MapFile.{IsMapFile}
 use Rattle.pm_mapfile.specs.MapText.{IsMapText}
 use Rattle.pm_mapfile.specs.Answers.{AnswersFile, IsMapFileAnswer}
 use Rattle.pm_mapfile.proofs.OneAnswer.{one_file_answer}
@@ -17,7 +20,7 @@ use Rattle.pm_cli.specs.declared.refusal.Limit.TheVariants.{Bytes, Letters, Edge
 use Rattle.pm_cli.specs.declared.refusal.MapRule.TheVariants.{Permutation, Connected, Euler, Empty, Vertex, Face, Loop, Double}
 use Rattle.pm_cli.specs.declared.refusal.Refusal.{Refusal}
 use Rattle.pm_cli.specs.declared.refusal.Refusal.TheVariants.{Usage, Text, Limited, Map, Tree, Invalid}
-use Rattle.pm_cli.specs.MapCommands.{HasMap, RefusesMapFile, AnswersMapFile, HasCanonicalText, IsCountsText, IsCountedIn, IsRuleOf, ChecksClass, counted, no_map, not_in_class}
+use Rattle.pm_cli.specs.MapCommands.{HasMap, MakesNoMap, RefusesFile, RefusesMapFile, AnswersMapFile, HasCanonicalText, IsCountsText, IsCountedIn, IsRuleOf, ChecksClass, counted, no_map, not_in_class}
 use Rattle.pm_cli.proofs.OneText.{one_text}
 
 -- a map has one text of its canonical map
@@ -31,11 +34,11 @@ pub one_counts_text : (m : RotationSystem) (a b : List ℕ) → IsRootedMap m �
 one_counts_text m a b rooted x y = x ∙ sym y
 
 -- the map of a map file is a rooted map
-rooted_map : (bytes : List ℕ) (limit : ℕ) (residue : Option (List ℕ)) (m : RotationSystem) → AnswersFile bytes limit residue (Ok m) → IsRootedMap m
+pub rooted_map : (bytes : List ℕ) (limit : ℕ) (residue : Option (List ℕ)) (m : RotationSystem) → AnswersFile bytes limit residue (Ok m) → IsRootedMap m
 rooted_map bytes limit residue m h = subst IsRootedMap (sym h.answered.answered.0) h.answered.answered.1
 
 -- the refusal of a command for that of the reading of its map file
-refusal_of : FileRefusal → Refusal
+pub refusal_of : FileRefusal → Refusal
 refusal_of (reading.Text line) = Text line
 refusal_of (reading.Map (made.TooMany edges)) = Limited (Edges edges)
 refusal_of (reading.Map (made.NotPermutation dart)) = Map (Permutation dart)
@@ -44,30 +47,46 @@ refusal_of (reading.Map (made.Genus number)) = Map (Euler number)
 refusal_of (reading.Map made.Memory) = Usage 0
 refusal_of reading.Memory = Usage 0
 
--- a refused map file
-record IsRefusedMap (bytes : List ℕ) (limit : ℕ) (refusal : Refusal) : Type 0 where
-  why : FileRefusal
-  is : refusal ≡ refusal_of why
-  answered : IsMapFileAnswer bytes limit (Err why)
-  told : ◌≡◌ {A = Result (RotationSystem × Option (List ℕ)) FileRefusal} (Err why) (Err reading.Memory) → ⊥
+-- a refused file, by the answers of the code that reads it
+pub record IsRefusedFile {Read : Type 0} (answers : Result Read FileRefusal → Type 0) (refusal : Refusal) : Type 0 where
+  pub why : FileRefusal
+  pub is : refusal ≡ refusal_of why
+  pub answered : answers (Err why)
+  pub told : ◌≡◌ {A = Result Read FileRefusal} (Err why) (Err reading.Memory) → ⊥
 
-refused_map : (limit : ℕ) (bytes : List ℕ) (refusal : Refusal) → RefusesMapFile limit bytes refusal → IsRefusedMap bytes limit refusal
+pub refused_file : {Read : Type 0} (form : List ℕ → Type 0) (makes_no_map : MapRefusal → Type 0) (bytes : List ℕ) (answers : Result Read FileRefusal → Type 0)
+    → ((line : ℕ) → IsBrokenLine form bytes line → answers (Err (reading.Text line)))
+    → ((why : MapRefusal) → makes_no_map why → (why ≡ made.Memory → ⊥) → answers (Err (reading.Map why)))
+    → (refusal : Refusal) → RefusesFile form makes_no_map bytes refusal → IsRefusedFile answers refusal
 unfolding refusal_of
-refused_map limit bytes (Text line) h = record { why = reading.Text line; is = refl; answered = h; told = λ e. cc }
-refused_map limit bytes (Limited (Edges edges)) h = record { why = reading.Map (made.TooMany edges); is = refl; answered = (h, λ e. cc); told = λ e. cc }
-refused_map limit bytes (Map (Permutation dart)) h = record { why = reading.Map (made.NotPermutation dart); is = refl; answered = (h, λ e. cc); told = λ e. cc }
-refused_map limit bytes (Map (Connected dart)) h = record { why = reading.Map (made.NotConnected dart); is = refl; answered = (h, λ e. cc); told = λ e. cc }
-refused_map limit bytes (Map (Euler number)) h = record { why = reading.Map (made.Genus number); is = refl; answered = (h, λ e. cc); told = λ e. cc }
-refused_map limit bytes (Limited Bytes) h = absurd h
-refused_map limit bytes (Limited (Letters letters)) h = absurd h
-refused_map limit bytes (Tree broken) h = absurd h
-refused_map limit bytes (Map Empty) h = absurd h
-refused_map limit bytes (Map (Vertex dart)) h = absurd h
-refused_map limit bytes (Map (Face dart)) h = absurd h
-refused_map limit bytes (Map (Loop dart)) h = absurd h
-refused_map limit bytes (Map (Double dart)) h = absurd h
-refused_map limit bytes (Invalid list) h = absurd h
-refused_map limit bytes (Usage matched) h = absurd h
+refused_file form makes_no_map bytes answers text none (Text line) h = record { why = reading.Text line; is = refl; answered = text line h; told = λ e. cc }
+refused_file form makes_no_map bytes answers text none (Limited (Edges edges)) h = record { why = reading.Map (made.TooMany edges); is = refl; answered = none (made.TooMany edges) h (λ e. cc); told = λ e. cc }
+refused_file form makes_no_map bytes answers text none (Map (Permutation dart)) h = record { why = reading.Map (made.NotPermutation dart); is = refl; answered = none (made.NotPermutation dart) h (λ e. cc); told = λ e. cc }
+refused_file form makes_no_map bytes answers text none (Map (Connected dart)) h = record { why = reading.Map (made.NotConnected dart); is = refl; answered = none (made.NotConnected dart) h (λ e. cc); told = λ e. cc }
+refused_file form makes_no_map bytes answers text none (Map (Euler number)) h = record { why = reading.Map (made.Genus number); is = refl; answered = none (made.Genus number) h (λ e. cc); told = λ e. cc }
+refused_file form makes_no_map bytes answers text none (Limited Bytes) h = absurd h
+refused_file form makes_no_map bytes answers text none (Limited (Letters letters)) h = absurd h
+refused_file form makes_no_map bytes answers text none (Tree broken) h = absurd h
+refused_file form makes_no_map bytes answers text none (Map Empty) h = absurd h
+refused_file form makes_no_map bytes answers text none (Map (Vertex dart)) h = absurd h
+refused_file form makes_no_map bytes answers text none (Map (Face dart)) h = absurd h
+refused_file form makes_no_map bytes answers text none (Map (Loop dart)) h = absurd h
+refused_file form makes_no_map bytes answers text none (Map (Double dart)) h = absurd h
+refused_file form makes_no_map bytes answers text none (Invalid list) h = absurd h
+refused_file form makes_no_map bytes answers text none (Usage matched) h = absurd h
+
+refused_map : (limit : ℕ) (bytes : List ℕ) (refusal : Refusal) → RefusesMapFile limit bytes refusal → IsRefusedFile (IsMapFileAnswer bytes limit) refusal
+refused_map limit bytes refusal h = refused_file IsMapFile (MakesNoMap bytes limit) bytes (IsMapFileAnswer bytes limit) (λ line broken. broken) (λ why made other. (made, other)) refusal h
+
+same_why : {Read : Type 0} {f g : FileRefusal} → ◌≡◌ {A = Result Read FileRefusal} (Err f) (Err g) → f ≡ g
+same_why e = cc
+
+-- one reading of a file is refused for one reason
+pub one_refusal : {Read : Type 0} (answers : Result Read FileRefusal → Type 0)
+    → ((first second : Result Read FileRefusal) → answers first → answers second → (first ≡ Err reading.Memory → ⊥) → (second ≡ Err reading.Memory → ⊥) → first ≡ second)
+    → (a b : Refusal) → IsRefusedFile answers a → IsRefusedFile answers b → a ≡ b
+one_refusal answers one a b first second =
+    first.is ∙ ap refusal_of (same_why (one (Err first.why) (Err second.why) first.answered second.answered first.told second.told)) ∙ sym second.is
 
 map_of : RotationSystem → Result (RotationSystem × Option (List ℕ)) FileRefusal → RotationSystem
 map_of other (Ok read) = read.0
@@ -80,9 +99,6 @@ same_map m n r q e = ap (map_of m) e
 
 differ : (m : RotationSystem) (r : Option (List ℕ)) (why : FileRefusal) → ◌≡◌ {A = Result (RotationSystem × Option (List ℕ)) FileRefusal} (Ok (m, r)) (Err why) → ⊥
 differ m r why e = cc
-
-same_why : (f g : FileRefusal) → ◌≡◌ {A = Result (RotationSystem × Option (List ℕ)) FileRefusal} (Err f) (Err g) → f ≡ g
-same_why f g e = cc
 
 -- a file doesn't make a map and none
 pub not_both : (limit : ℕ) (Q : RotationSystem → Type 0) (bytes : List ℕ) (refusal : Refusal) → HasMap bytes limit Q → RefusesMapFile limit bytes refusal → ⊥
@@ -99,11 +115,7 @@ one_map limit Q R bytes x y = (
 
 -- and is refused for one reason
 pub one_refusal_of_map : (limit : ℕ) (bytes : List ℕ) (a b : Refusal) → RefusesMapFile limit bytes a → RefusesMapFile limit bytes b → a ≡ b
-one_refusal_of_map limit bytes a b x y =
-    let first = refused_map limit bytes a x in
-    let second = refused_map limit bytes b y in
-    let same = one_file_answer bytes limit (Err first.why) (Err second.why) first.answered second.answered first.told second.told in
-    first.is ∙ ap refusal_of (same_why first.why second.why same) ∙ sym second.is
+one_refusal_of_map limit bytes a b x y = one_refusal (IsMapFileAnswer bytes limit) (one_file_answer bytes limit) a b (refused_map limit bytes a x) (refused_map limit bytes b y)
 
 -- a text for each map is one answer to each map file
 pub map_answers_once : (limit : ℕ) (P : RotationSystem → List ℕ → Type 0) → ((m : RotationSystem) (a b : List ℕ) → IsRootedMap m → P m a → P m b → a ≡ b)
@@ -116,7 +128,7 @@ map_answers_once limit P one bytes (Err refusal) (Ok text) x y = absurd (not_bot
 map_answers_once limit P one bytes (Err refusal) (Err other) x y = ap Err (one_refusal_of_map limit bytes refusal other x y)
 
 -- a rule of a class is told by one refusal, and want of memory by none
-one_rule : (why : ClassRefusal) (a b : Refusal) → IsRuleOf why a → IsRuleOf why b → a ≡ b
+pub one_rule : (why : ClassRefusal) (a b : Refusal) → IsRuleOf why a → IsRuleOf why b → a ≡ b
 one_rule class.Memory a b x y = absurd x
 one_rule class.Empty a b x y = x ∙ sym y
 one_rule (class.TooMany edges) a b x y = x ∙ sym y
@@ -125,13 +137,13 @@ one_rule (class.Face dart) a b x y = x ∙ sym y
 one_rule (class.Loop dart) a b x y = x ∙ sym y
 one_rule (class.Double dart) a b x y = x ∙ sym y
 
-same_reason : {Size : Type 0} {a b : ClassRefusal} → ◌≡◌ {A = Result Size ClassRefusal} (Err a) (Err b) → a ≡ b
+pub same_reason : {Size : Type 0} {a b : ClassRefusal} → ◌≡◌ {A = Result Size ClassRefusal} (Err a) (Err b) → a ≡ b
 same_reason e = cc
 
-size_or_reason : {Size : Type 0} {size : Size} {why : ClassRefusal} → ◌≡◌ {A = Result Size ClassRefusal} (Ok size) (Err why) → ⊥
+pub size_or_reason : {Size : Type 0} {size : Size} {why : ClassRefusal} → ◌≡◌ {A = Result Size ClassRefusal} (Ok size) (Err why) → ⊥
 size_or_reason e = cc
 
-told : {Size : Type 0} (why : ClassRefusal) (refusal : Refusal) → IsRuleOf why refusal → ◌≡◌ {A = Result Size ClassRefusal} (Err why) (Err class.Memory) → ⊥
+pub told : {Size : Type 0} (why : ClassRefusal) (refusal : Refusal) → IsRuleOf why refusal → ◌≡◌ {A = Result Size ClassRefusal} (Err why) (Err class.Memory) → ⊥
 told why refusal rule e = subst (λ (w : ClassRefusal). IsRuleOf w refusal) (same_reason e) rule
 
 -- a map of the class breaks none of its rules

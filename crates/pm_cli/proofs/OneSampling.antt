@@ -21,11 +21,11 @@ use Rattle.pm_cli.proofs.OneText.{one_text}
 use Rattle.pm_cli.proofs.Records.{records_once}
 
 -- a list is refused for one reason, and a valid one for none
-valid_or_refused : (values bounds : List ℕ) (refusal : ListRefusal) → IsValidList values bounds → IsRefusalOf values bounds refusal → ⊥
+pub valid_or_refused : (values bounds : List ℕ) (refusal : ListRefusal) → IsValidList values bounds → IsRefusalOf values bounds refusal → ⊥
 valid_or_refused values bounds (list.Length want have) valid h = h.differs valid.as_long
 valid_or_refused values bounds (list.Entry place value bound) valid h = let b = h.first.broken in let v = valid.below place h.first.within in omega arith
 
-one_list_refusal : (values bounds : List ℕ) (a b : ListRefusal) → IsRefusalOf values bounds a → IsRefusalOf values bounds b → a ≡ b
+pub one_list_refusal : (values bounds : List ℕ) (a b : ListRefusal) → IsRefusalOf values bounds a → IsRefusalOf values bounds b → a ≡ b
 one_list_refusal values bounds (list.Length want have) (list.Length want' have') x y = ap₂ list.Length (x.wanted ∙ sym y.wanted) (x.had ∙ sym y.had)
 one_list_refusal values bounds (list.Length want have) (list.Entry place value bound) x y = absurd (x.differs y.as_long)
 one_list_refusal values bounds (list.Entry place value bound) (list.Length want have) x y = absurd (y.differs x.as_long)

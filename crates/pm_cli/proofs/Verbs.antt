@@ -2,7 +2,7 @@
 use Rattle.std.proofs.Common.{◌≡◌, ℕ, ◌<◌, List, [], ◌∷◌, length, take, refl, sym, ◌∙◌, ap, subst, arith}
 use Rattle.std.specs.Prelude.{codes, if◌then◌else◌, ◌==◌}
 use Rattle.pm_cli.specs.declared.words.Command.{Command}
-use Rattle.pm_cli.specs.declared.words.Command.TheVariants.{CloseEulerian, OpenEulerian, Canon, CheckGeneral, CheckQuartic, CheckEulerian, SampleQuartic, SampleEulerian, DrawQuartic, DrawEulerian}
+use Rattle.pm_cli.specs.declared.words.Command.TheVariants.{CloseEulerian, OpenEulerian, Canon, CheckGeneral, CheckQuartic, CheckEulerian, SampleQuartic, SampleEulerian, UnsampleQuartic, UnsampleEulerian, DrawQuartic, DrawEulerian}
 use Rattle.pm_cli.specs.Commands.{spelling}
 use Rattle.pm_cli.proofs.WordPlaces.{front, same_first}
 
@@ -13,6 +13,7 @@ pub data Verb : Type 0 where
   canonizing : Verb
   checking : Verb
   sampling : Verb
+  unsampling : Verb
   drawing : Verb
 
 abbrev pub word_of : Verb → List ℕ
@@ -21,6 +22,7 @@ word_of opening = codes "open"
 word_of canonizing = codes "canon"
 word_of checking = codes "check"
 word_of sampling = codes "sample"
+word_of unsampling = codes "unsample"
 word_of drawing = codes "draw"
 
 -- how many words the commands have that begin so
@@ -30,6 +32,7 @@ words_with opening = 2
 words_with canonizing = 1
 words_with checking = 2
 words_with sampling = 3
+words_with unsampling = 2
 words_with drawing = 5
 
 abbrev pub verb_of : Command → Verb
@@ -41,10 +44,12 @@ verb_of CheckQuartic = checking
 verb_of CheckEulerian = checking
 verb_of (SampleQuartic size) = sampling
 verb_of (SampleEulerian profile) = sampling
+verb_of UnsampleQuartic = unsampling
+verb_of UnsampleEulerian = unsampling
 verb_of (DrawQuartic size seed count) = drawing
 verb_of (DrawEulerian profile seed count) = drawing
 
--- the commands that begin with `check`, `sample` and `draw`
+-- the commands that begin with `check`, `sample`, `unsample` and `draw`
 pub data IsCheck : Command → Type 0 where
   check_general : IsCheck CheckGeneral
   check_quartic : IsCheck CheckQuartic
@@ -53,6 +58,10 @@ pub data IsCheck : Command → Type 0 where
 pub data IsSample : Command → Type 0 where
   sample_quartic : (size : ℕ) → IsSample (SampleQuartic size)
   sample_eulerian : (profile : List (ℕ × ℕ)) → IsSample (SampleEulerian profile)
+
+pub data IsUnsample : Command → Type 0 where
+  unsample_quartic : IsUnsample UnsampleQuartic
+  unsample_eulerian : IsUnsample UnsampleEulerian
 
 pub data IsDraw : Command → Type 0 where
   draw_quartic : (size seed count : ℕ) → IsDraw (DrawQuartic size seed count)
@@ -64,6 +73,7 @@ HasVerb opening command = command ≡ OpenEulerian
 HasVerb canonizing command = command ≡ Canon
 HasVerb checking command = IsCheck command
 HasVerb sampling command = IsSample command
+HasVerb unsampling command = IsUnsample command
 HasVerb drawing command = IsDraw command
 
 pub has_verb : (command : Command) → HasVerb (verb_of command) command
@@ -75,6 +85,8 @@ has_verb CheckQuartic = check_quartic
 has_verb CheckEulerian = check_eulerian
 has_verb (SampleQuartic size) = sample_quartic size
 has_verb (SampleEulerian profile) = sample_eulerian profile
+has_verb UnsampleQuartic = unsample_quartic
+has_verb UnsampleEulerian = unsample_eulerian
 has_verb (DrawQuartic size seed count) = draw_quartic size seed count
 has_verb (DrawEulerian profile seed count) = draw_eulerian profile seed count
 
@@ -88,6 +100,8 @@ begins CheckQuartic = refl
 begins CheckEulerian = refl
 begins (SampleQuartic size) = refl
 begins (SampleEulerian profile) = refl
+begins UnsampleQuartic = refl
+begins UnsampleEulerian = refl
 begins (DrawQuartic size seed count) = refl
 begins (DrawEulerian profile seed count) = refl
 
@@ -100,6 +114,8 @@ long CheckQuartic = refl
 long CheckEulerian = refl
 long (SampleQuartic size) = refl
 long (SampleEulerian profile) = refl
+long UnsampleQuartic = refl
+long UnsampleEulerian = refl
 long (DrawQuartic size seed count) = refl
 long (DrawEulerian profile seed count) = refl
 
@@ -117,7 +133,8 @@ verb_with letter =
     if letter == 110 then opening else
     if letter == 111 then canonizing else
     if letter == 99 then checking else
-    if letter == 112 then sampling else drawing
+    if letter == 112 then sampling else
+    if letter == 97 then unsampling else drawing
 
 verb_with_letter : (verb : Verb) → verb_with (fourth_letter (word_of verb)) ≡ verb
 unfolding fourth_letter verb_with
@@ -126,6 +143,7 @@ verb_with_letter opening = refl
 verb_with_letter canonizing = refl
 verb_with_letter checking = refl
 verb_with_letter sampling = refl
+verb_with_letter unsampling = refl
 verb_with_letter drawing = refl
 
 one_verb : (a b : Verb) → word_of a ≡ word_of b → a ≡ b

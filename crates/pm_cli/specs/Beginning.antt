@@ -4,7 +4,7 @@ use Rattle.pm_euler.specs.Bounds.{quartic_choices, eulerian_choices}
 use Rattle.pm_euler.specs.Quartic.{SamplesQuartic}
 use Rattle.pm_euler.specs.Eulerian.{SamplesEulerian}
 use Rattle.pm_cli.specs.declared.words.Command.{Command}
-use Rattle.pm_cli.specs.declared.words.Command.TheVariants.{CloseEulerian, OpenEulerian, Canon, CheckGeneral, CheckQuartic, CheckEulerian, SampleQuartic, SampleEulerian, DrawQuartic, DrawEulerian}
+use Rattle.pm_cli.specs.declared.words.Command.TheVariants.{CloseEulerian, OpenEulerian, Canon, CheckGeneral, CheckQuartic, CheckEulerian, SampleQuartic, SampleEulerian, UnsampleQuartic, UnsampleEulerian, DrawQuartic, DrawEulerian}
 use Rattle.pm_cli.specs.Drawing.{HasFirstRecords}
 
 -- the first records of a command that writes its answer record by record
@@ -19,3 +19,5 @@ IsFirstRecords CheckQuartic text = ⊥
 IsFirstRecords CheckEulerian text = ⊥
 IsFirstRecords (SampleQuartic size) text = ⊥
 IsFirstRecords (SampleEulerian profile) text = ⊥
+IsFirstRecords UnsampleQuartic text = ⊥
+IsFirstRecords UnsampleEulerian text = ⊥

@@ -4,7 +4,7 @@ use Rattle.pm_trees.specs.Pairs.{IsProfile}
 use Rattle.pm_euler.specs.Quartic.{IsQuarticSize}
 use Rattle.pm_cli.specs.declared.words.TheConstants.{MAX_RECORDS}
 use Rattle.pm_cli.specs.declared.words.Command.{Command}
-use Rattle.pm_cli.specs.declared.words.Command.TheVariants.{CloseEulerian, OpenEulerian, Canon, CheckGeneral, CheckQuartic, CheckEulerian, SampleQuartic, SampleEulerian, DrawQuartic, DrawEulerian}
+use Rattle.pm_cli.specs.declared.words.Command.TheVariants.{CloseEulerian, OpenEulerian, Canon, CheckGeneral, CheckQuartic, CheckEulerian, SampleQuartic, SampleEulerian, UnsampleQuartic, UnsampleEulerian, DrawQuartic, DrawEulerian}
 use Rattle.pm_cli.specs.ProfileWord.{profile_text}
 
 -- the words of a command
@@ -17,6 +17,8 @@ spelling CheckQuartic = codes "check" ∷ codes "quartic" ∷ []
 spelling CheckEulerian = codes "check" ∷ codes "eulerian" ∷ []
 spelling (SampleQuartic size) = codes "sample" ∷ codes "quartic" ∷ decimal size ∷ []
 spelling (SampleEulerian profile) = codes "sample" ∷ codes "eulerian" ∷ profile_text profile ∷ []
+spelling UnsampleQuartic = codes "unsample" ∷ codes "quartic" ∷ []
+spelling UnsampleEulerian = codes "unsample" ∷ codes "eulerian" ∷ []
 spelling (DrawQuartic size seed count) = codes "draw" ∷ codes "quartic" ∷ decimal size ∷ decimal seed ∷ decimal count ∷ []
 spelling (DrawEulerian profile seed count) = codes "draw" ∷ codes "eulerian" ∷ profile_text profile ∷ decimal seed ∷ decimal count ∷ []
 
@@ -38,6 +40,8 @@ IsCommand Canon = ⊤
 IsCommand CheckGeneral = ⊤
 IsCommand CheckQuartic = ⊤
 IsCommand CheckEulerian = ⊤
+IsCommand UnsampleQuartic = ⊤
+IsCommand UnsampleEulerian = ⊤
 
 -- the words are those of the command
 pub record Spells (words : List (List ℕ)) (command : Command) : Type 0 where
@@ -54,6 +58,8 @@ reads CheckQuartic = true
 reads CheckEulerian = true
 reads (SampleQuartic size) = true
 reads (SampleEulerian profile) = true
+reads UnsampleQuartic = true
+reads UnsampleEulerian = true
 reads (DrawQuartic size seed count) = false
 reads (DrawEulerian profile seed count) = false
 
@@ -67,6 +73,8 @@ writes_records CheckQuartic = false
 writes_records CheckEulerian = false
 writes_records (SampleQuartic size) = false
 writes_records (SampleEulerian profile) = false
+writes_records UnsampleQuartic = false
+writes_records UnsampleEulerian = false
 writes_records (DrawQuartic size seed count) = true
 writes_records (DrawEulerian profile seed count) = true
 

@@ -14,3 +14,4 @@ pub mod Opening
 pub mod ProfileWord
 pub mod Sampling
 pub mod TreeFile
+pub mod Unsampling

@@ -30,23 +30,27 @@ pub record HasMap (bytes : List ℕ) (limit : ℕ) (P : RotationSystem → Type 
 abbrev pub MakesNoMap : List ℕ → ℕ → MapRefusal → Type 0
 MakesNoMap bytes limit refusal = (residue : Option (List ℕ)) × AnswersFile bytes limit residue (Err refusal)
 
+-- the first rule that a file of a form breaks, by the reasons for which its lines make no map
+abbrev pub RefusesFile : (List ℕ → Type 0) → (MapRefusal → Type 0) → List ℕ → Refusal → Type 0
+RefusesFile form makes_no_map bytes (Text line) = IsBrokenLine form bytes line
+RefusesFile form makes_no_map bytes (Limited (Edges edges)) = makes_no_map (TooMany edges)
+RefusesFile form makes_no_map bytes (Map (Permutation dart)) = makes_no_map (NotPermutation dart)
+RefusesFile form makes_no_map bytes (Map (Connected dart)) = makes_no_map (NotConnected dart)
+RefusesFile form makes_no_map bytes (Map (Euler number)) = makes_no_map (Genus number)
+RefusesFile form makes_no_map bytes (Limited Bytes) = ⊥
+RefusesFile form makes_no_map bytes (Limited (Letters letters)) = ⊥
+RefusesFile form makes_no_map bytes (Tree rule) = ⊥
+RefusesFile form makes_no_map bytes (Map Empty) = ⊥
+RefusesFile form makes_no_map bytes (Map (Vertex dart)) = ⊥
+RefusesFile form makes_no_map bytes (Map (Face dart)) = ⊥
+RefusesFile form makes_no_map bytes (Map (Loop dart)) = ⊥
+RefusesFile form makes_no_map bytes (Map (Double dart)) = ⊥
+RefusesFile form makes_no_map bytes (Invalid list) = ⊥
+RefusesFile form makes_no_map bytes (Usage matched) = ⊥
+
 -- the first rule that a map file breaks
 abbrev pub RefusesMapFile : ℕ → List ℕ → Refusal → Type 0
-RefusesMapFile limit bytes (Text line) = IsBrokenLine IsMapFile bytes line
-RefusesMapFile limit bytes (Limited (Edges edges)) = MakesNoMap bytes limit (TooMany edges)
-RefusesMapFile limit bytes (Map (Permutation dart)) = MakesNoMap bytes limit (NotPermutation dart)
-RefusesMapFile limit bytes (Map (Connected dart)) = MakesNoMap bytes limit (NotConnected dart)
-RefusesMapFile limit bytes (Map (Euler number)) = MakesNoMap bytes limit (Genus number)
-RefusesMapFile limit bytes (Limited Bytes) = ⊥
-RefusesMapFile limit bytes (Limited (Letters letters)) = ⊥
-RefusesMapFile limit bytes (Tree rule) = ⊥
-RefusesMapFile limit bytes (Map Empty) = ⊥
-RefusesMapFile limit bytes (Map (Vertex dart)) = ⊥
-RefusesMapFile limit bytes (Map (Face dart)) = ⊥
-RefusesMapFile limit bytes (Map (Loop dart)) = ⊥
-RefusesMapFile limit bytes (Map (Double dart)) = ⊥
-RefusesMapFile limit bytes (Invalid list) = ⊥
-RefusesMapFile limit bytes (Usage matched) = ⊥
+RefusesMapFile limit bytes refusal = RefusesFile IsMapFile (MakesNoMap bytes limit) bytes refusal
 
 -- the answer to a map file: a text for its map, or the first rule that the file breaks
 abbrev pub AnswersMapFile : ℕ → (RotationSystem → List ℕ → Type 0) → List ℕ → Result (List ℕ) Refusal → Type 0

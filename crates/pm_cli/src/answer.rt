@@ -9,6 +9,7 @@ use crate::close::close_eulerian;
 use crate::open::open_eulerian;
 use crate::refusal::Stop;
 use crate::sample::sample;
+use crate::unsample::unsample;
 use crate::words::Command;
 use pm_euler::{Eulerian, Quartic};
 use std::alloc::Global;
@@ -29,6 +30,8 @@ pub(crate) fn answer(alloc: Global, command: &Command, bytes: &[u8]) -> Result<V
         Command::CheckEulerian => check_class::<Eulerian>(alloc, bytes),
         Command::SampleQuartic { size } => sample::<Quartic>(alloc, size, bytes),
         Command::SampleEulerian { profile } => sample::<Eulerian>(alloc, profile, bytes),
+        Command::UnsampleQuartic => unsample::<Quartic>(alloc, bytes),
+        Command::UnsampleEulerian => unsample::<Eulerian>(alloc, bytes),
         Command::DrawQuartic { .. } => unreachable!(),
         Command::DrawEulerian { .. } => unreachable!(),
     }

@@ -46,7 +46,7 @@ pub(crate) fn check_general(alloc: Global, bytes: &[u8]) -> Result<Vec<u8>, Stop
 }
 
 // How a run stops where the map isn't of the class.
-fn stop_of_class(refusal: ClassRefusal) -> Stop
+pub(crate) fn stop_of_class(refusal: ClassRefusal) -> Stop
     ensures { IsStopOfClass refusal result }
 {
     let rule = match refusal {

@@ -1,13 +1,13 @@
-ghost use Rattle.std.specs.Prelude.{◌≡◌, ◌≤◌, length, MatchOption};
+ghost use Rattle.std.specs.Prelude.{◌≡◌, ◌≤◌, length, IfOk, MatchOption};
 ghost use Rattle.pm_io.specs.declared.TheConstants.{MAX_BYTES as limit};
 ghost use Rattle.pm_text.specs.Broken.{IsBrokenLine};
-ghost use Rattle.pm_cli.specs.Sampling.{IsChoicesFile};
+ghost use Rattle.pm_cli.specs.Sampling.{IsChoicesFile, IsChoicesLine};
 ghost use Rattle.pm_cli.specs.ChoicesFile.{IsOnlyLine, IsChoicesAnswer};
 
 use crate::refusal::{Refusal, Stop};
-use pm_lists::{ListTextRefusal, NumList, read_list};
+use pm_lists::{ListTextRefusal, NumList, put_list, read_list};
 use pm_text::Lines;
-use std::alloc::Global;
+use std::alloc::{AllocError, Global};
 
 // The first line of a file of choices.
 #[derive(Clone, Copy)]
@@ -53,4 +53,13 @@ pub(crate) fn read_choices(alloc: Global, bytes: &[u8]) -> Result<NumList, Stop>
         Err(ListTextRefusal::Memory) => Err(Stop::Memory),
         Err(ListTextRefusal::Text) => Err(Stop::Refused(Refusal::Text { line: 1 })),
     }
+}
+
+// The file of choices that spells these.
+pub(crate) fn choices_text(alloc: Global, choices: &NumList) -> Result<Vec<u8>, AllocError>
+    ensures { IfOk result (λ text. IsChoicesLine choices.now text.items) }
+{
+    let mut text = Vec::new(alloc);
+    put_list(alloc, b"choices", choices, &mut text)?;
+    Ok(text)
 }

@@ -15,6 +15,7 @@ mod profile_word;
 mod refusal;
 mod sample;
 mod tree_file;
+mod unsample;
 mod words;
 
 pub use engine::run;
@@ -32,3 +33,5 @@ mod limit_tests;
 mod open_tests;
 #[cfg(test)]
 mod tests;
+#[cfg(test)]
+mod unsample_tests;

@@ -76,6 +76,10 @@ pub enum Command {
     SampleEulerian {
         profile: Profile,
     },
+    /// `unsample quartic`: answers the choices of a quartic map and a residue.
+    UnsampleQuartic,
+    /// `unsample eulerian`: the same of a map whose vertices have even degrees.
+    UnsampleEulerian,
     /// `draw quartic SIZE SEED COUNT`: draws lists of choices and answers each with its quartic map and residue.
     DrawQuartic {
         size: u32,
@@ -118,6 +122,9 @@ impl Command {
         }
         if is_word(&words[0], "sample") {
             return Command::of_sample(alloc, words);
+        }
+        if is_word(&words[0], "unsample") {
+            return Ok(Command::of_unsample(words));
         }
         if is_word(&words[0], "draw") {
             return Command::of_draw(alloc, words);
@@ -235,6 +242,23 @@ impl Command {
             return Ok(Err(2));
         };
         Ok(Command::SampleEulerian { profile }.unless_more(words, 3))
+    }
+
+    // The same of words that begin with `unsample`.
+    fn of_unsample(words: &[String]) -> Result<Command, u32>
+        requires { take 1 (map string_bytes words.now) ≡ codes "unsample" ∷ [] }
+        ensures { MatchResult result (Spells (map string_bytes words.now)) (IsNoCommand (map string_bytes words.now)) }
+    {
+        if words.len() == 1 {
+            return Err(1);
+        }
+        if is_word(&words[1], "quartic") {
+            return Command::UnsampleQuartic.unless_more(words, 2);
+        }
+        if is_word(&words[1], "eulerian") {
+            return Command::UnsampleEulerian.unless_more(words, 2);
+        }
+        Err(1)
     }
 
     // The same of words that begin with `draw`.

@@ -1,3 +1,5 @@
+use Rattle.pm_mapfile.specs.MapFile.{IsMapFile}
+use Rattle.pm_cli.specs.MapCommands.{MakesNoMap}
 use Rattle.pm_cli.proofs.MapFiles.{stopped}
 use Rattle.pm_cli.proofs.map_file.map_of_file.Goals as goal
 
@@ -13,4 +15,4 @@ returns-in-Err-Text c = rw c.in-Err-Text.field-0-is at c.in-Err-Text.ensures
 pub returns-in-Err-Map : goal.returns-in-Err-Map
 returns-in-Err-Map c =
     let answer = rw c.in-Err-Map.field-0-is at c.in-Err-Map.ensures in
-    stopped c.args.bytes.now c.args.limit c.in-Err-Map.refusal c.stop_of.result answer.0 c.stop_of.ensures
+    stopped IsMapFile (MakesNoMap c.args.bytes.now c.args.limit) c.args.bytes.now c.in-Err-Map.refusal c.stop_of.result answer.0 c.stop_of.ensures

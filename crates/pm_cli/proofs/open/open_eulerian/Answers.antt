@@ -11,7 +11,7 @@ no_length : (n : ℕ) → true ≡ (n == 0) → n ≡ 0
 no_length n e = grind (arith, nat_tests)
 
 pub returns-in-Err : goal.returns-in-Err
-returns-in-Err c = refused (OpensEulerian c.args.bytes.now) c.args.bytes.now _ (λ refusal h. no_map refusal h) c.in-Err.stop c.in-Err.ensures
+returns-in-Err c = refused (OpensEulerian c.args.bytes.now) _ (λ refusal h. no_map refusal h) c.in-Err.stop c.in-Err.ensures
 
 pub returns-then-is_empty : goal.returns-then-is_empty
 returns-then-is_empty c =

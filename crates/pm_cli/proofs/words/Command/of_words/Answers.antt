@@ -2,7 +2,7 @@ use Rattle.std.proofs.Common.{◌≡◌, ℕ, ◌<◌, [], ◌∷◌, length, ta
 use Rattle.std.specs.Prelude.{◌==◌, string_bytes}
 use Rattle.std.proofs.lemmas.Bool.Decides.{nat_tests}
 use Rattle.pm_cli.proofs.CommandWords.{no_first_word}
-use Rattle.pm_cli.proofs.Verbs.{Verb, closing, opening, canonizing, checking, sampling, drawing, word_of}
+use Rattle.pm_cli.proofs.Verbs.{Verb, closing, opening, canonizing, checking, sampling, unsampling, drawing, word_of}
 use Rattle.pm_cli.proofs.WordPlaces.{some_word, first_word, same_first}
 use Rattle.pm_cli.proofs.words.Command.of_words.Goals as goal
 
@@ -29,4 +29,5 @@ returns c = no_first_word _ none where
   none canonizing one = false_true (c.if-is_word-3.ensures.1 (ap string_bytes c.index-words-0-3.is ∙ same_first (sym (first_word string_bytes c.args.words.now c.index-words-0-3.result some) ∙ one)))
   none checking one = false_true (c.if-is_word-4.ensures.1 (ap string_bytes c.index-words-0-4.is ∙ same_first (sym (first_word string_bytes c.args.words.now c.index-words-0-4.result some) ∙ one)))
   none sampling one = false_true (c.if-is_word-5.ensures.1 (ap string_bytes c.index-words-0-5.is ∙ same_first (sym (first_word string_bytes c.args.words.now c.index-words-0-5.result some) ∙ one)))
-  none drawing one = false_true (c.if-is_word-6.ensures.1 (ap string_bytes c.index-words-0-6.is ∙ same_first (sym (first_word string_bytes c.args.words.now c.index-words-0-6.result some) ∙ one)))
+  none unsampling one = false_true (c.if-is_word-6.ensures.1 (ap string_bytes c.index-words-0-6.is ∙ same_first (sym (first_word string_bytes c.args.words.now c.index-words-0-6.result some) ∙ one)))
+  none drawing one = false_true (c.if-is_word-7.ensures.1 (ap string_bytes c.index-words-0-7.is ∙ same_first (sym (first_word string_bytes c.args.words.now c.index-words-0-7.result some) ∙ one)))
