@@ -15,6 +15,7 @@ pub mod OneUnsampling
 pub mod OpenedAgain
 pub mod PairTexts
 pub mod Records
+pub mod SampledAgain
 pub mod Sizes
 pub mod TreeLines
 pub mod Verbs

@@ -1,5 +1,5 @@
 //! Laws of the answer.
-ghost use Rattle.pm_cli.specs.Laws.{HasOneAnswer, ClosedTreesOpen, OpenedMapsClose};
+ghost use Rattle.pm_cli.specs.Laws.{HasOneAnswer, ClosedTreesOpen, OpenedMapsClose, UnsampledQuarticPairsReturn, UnsampledEulerianPairsReturn};
 
 /// A law: words and bytes have one answer and no other, so that each refusal comes exactly where its rule is the first
 /// that is broken.
@@ -12,4 +12,11 @@ pub fn words_and_bytes_have_one_answer()
 pub fn opening_undoes_closing()
     ensures opened { ClosedTreesOpen }
     ensures closed { OpenedMapsClose }
+{}
+
+/// A law: of the file that `unsample` answered, `sample` for some size gives back the canonical map of the map file, as
+/// `canon` answers it, and its residue line.
+pub fn sampling_undoes_unsampling()
+    ensures quartic { UnsampledQuarticPairsReturn }
+    ensures eulerian { UnsampledEulerianPairsReturn }
 {}

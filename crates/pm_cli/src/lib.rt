@@ -19,7 +19,9 @@ mod unsample;
 mod words;
 
 pub use engine::run;
-pub use laws::{opening_undoes_closing, words_and_bytes_have_one_answer};
+pub use laws::{
+    opening_undoes_closing, sampling_undoes_unsampling, words_and_bytes_have_one_answer,
+};
 pub use refusal::{Limit, MapRule, Refusal, Stop, TreeRule};
 pub use words::{Command, MAX_RECORDS};
 
