@@ -1,4 +1,5 @@
 //! Runs that unsample. The bytes were worked out apart from the code.
+use crate::sampling_undoes_unsampling;
 use crate::tests::{NONE, run_on};
 use std::test::Fail;
 
@@ -18,6 +19,7 @@ fn unsamples_quartic_maps(rt: HostRuntime) -> Result<(), Fail> {
 
 #[test]
 fn unsamples_what_was_sampled(rt: HostRuntime) -> Result<(), Fail> {
+    sampling_undoes_unsampling();
     for (size, choices) in [
         ("sample quartic 1", b"choices 0 2 0\n".as_slice()),
         ("sample quartic 2", b"choices 1 5 0 1 0\n".as_slice()),
