@@ -223,6 +223,10 @@ def tables(program):
         for nodes in PROFILE_NODES:
             profile = ",".join(f"{degree}:{nodes}" for degree in degrees)
             profiles.append(Case(profile, sum(degrees) // 2 * nodes, [maker("choices.py", "eulerian", profile)]))
+
+    def sampled(case, name):
+        return Case(case.label, case.edges, case.steps + [[program, "sample", name, case.label]])
+
     return [
         ("Deep trees, `close eulerian`", lambda case: ["close", "eulerian"], deep),
         ("Wide trees, `close eulerian`", lambda case: ["close", "eulerian"], wide),
@@ -230,6 +234,9 @@ def tables(program):
         ("Maps, `check general`", lambda case: ["check", "general"], maps),
         ("Choices, `sample quartic`", lambda case: ["sample", "quartic", case.label], samples),
         ("Choices, `sample eulerian`", lambda case: ["sample", "eulerian", case.label], profiles),
+        ("Maps, `open eulerian`", lambda case: ["open", "eulerian"], maps),
+        ("Samples, `unsample quartic`", lambda case: ["unsample", "quartic"], [sampled(case, "quartic") for case in samples]),
+        ("Samples, `unsample eulerian`", lambda case: ["unsample", "eulerian"], [sampled(case, "eulerian") for case in profiles]),
     ]
 
 
