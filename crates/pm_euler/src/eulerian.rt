@@ -13,6 +13,7 @@ ghost use Rattle.pm_euler.specs.Sampling.{IsSampled};
 use crate::anew::plant_anew;
 use crate::bounds::{eulerian_choice_limits, eulerian_residue_limits};
 use crate::closing::canonical_closure;
+use crate::eulerian_unsampling::unsample_of_class;
 use crate::map_class::MapClass;
 use crate::map_profile::profile_of_map;
 use crate::objects::{codes_by_degree, edges_of, halves_of, letters_of};
@@ -75,11 +76,20 @@ impl MapClass for Eulerian {
     }
 
     fn unsample(
-        _alloc: Global,
-        _map: &RootedMap,
-        _residue: &[u64],
+        alloc: Global,
+        map: &RootedMap,
+        residue: &[u64],
     ) -> Result<NumList, UnsampleRefusal> {
-        Err(UnsampleRefusal::Memory)
+        let size = match Eulerian::size_of(alloc, map) {
+            Ok(size) => size,
+            Err(ClassRefusal::Memory) => return Err(UnsampleRefusal::Memory),
+            Err(refusal) => return Err(UnsampleRefusal::Class(refusal)),
+        };
+        let bounds = Eulerian::residue_bounds(alloc, &size)?;
+        if let Err(refusal) = check_list(residue, &bounds) {
+            return Err(UnsampleRefusal::List(refusal));
+        }
+        Ok(unsample_of_class(alloc, &size, map, residue)?)
     }
 
     fn is_sampled_once() {}

@@ -5,6 +5,7 @@ mod anew;
 mod bounds;
 mod closing;
 mod eulerian;
+mod eulerian_unsampling;
 mod map_class;
 mod map_profile;
 mod object_order;
