@@ -15,10 +15,12 @@ pub mod FoldedKinds
 pub mod FreeLeaves
 pub mod HalfCodes
 pub mod KindSides
+pub mod ObjectBlocks
 pub mod ObjectLemmas
 pub mod ObjectPlaces
 pub mod ObjectSums
 pub mod ObjectsFound
+pub mod ObjectsPut
 pub mod OneSample
 pub mod OneUnplanting
 pub mod PlaneLaws

@@ -4,6 +4,7 @@ ghost use Rattle.pm_lehmer.specs.Lehmer.{IsArrangementCode, IsArrangementOf};
 ghost use Rattle.pm_lists.specs.Valid.{IsValidList};
 ghost use Rattle.pm_map.specs.Classes.{IsEulerian};
 ghost use Rattle.pm_map.specs.Rotation.{structure_of};
+ghost use Rattle.pm_trees.specs.Pairs.{IsProfile};
 ghost use Rattle.pm_words.specs.Word.{turned};
 ghost use Rattle.pm_euler.specs.Bounds.{eulerian_choices, eulerian_residues};
 ghost use Rattle.pm_euler.specs.Eulerian.{IsEulerianAnswer, SamplesEulerian};
@@ -36,7 +37,7 @@ pub(crate) fn unsample_of_class(
     let _edges = map.edges();
     let unplanted = unplant(alloc, map, residue[residue.len() - 1] as u32)?;
     let kinds = kinds_of_tree(alloc, &unplanted.tree)?;
-    let objects = objects_of_residue(alloc, profile, &kinds, residue)?;
+    let objects = objects_of_residue(alloc, profile.pairs(), &kinds, residue)?;
     let ranks = ranks_by_object(alloc, nodes_of(profile) as usize, &kinds, &objects)?;
     let arrangement = turned_back(alloc, &objects, residue[0] as u32)?;
     let mut choices = code(alloc, &arrangement)?;
@@ -45,20 +46,21 @@ pub(crate) fn unsample_of_class(
     Ok(NumList::of(choices))
 }
 
-/// The objects of the profile in preorder, where the kinds tell their half degrees, and the residue tells by an arrangement
+/// The objects of a profile with these pairs in preorder, where the kinds tell their half degrees, and the residue tells by an arrangement
 /// code in which order those of the same half degree come.
 fn objects_of_residue(
     alloc: Global,
-    profile: &Profile,
+    pairs: &[(u32, u32)],
     kinds: &[(u32, u64)],
     residue: &[u64],
 ) -> Result<Vec<u32>, AllocError>
-    requires some { (objects : List ℕ) × AreObjectsRead profile.now kinds.now residue.now objects }
-    ensures { IfOk result (λ objects. AreObjectsRead profile.now kinds.now residue.now objects.items) }
+    requires profile { IsProfile pairs.now }
+    requires some { (objects : List ℕ) × AreObjectsRead pairs.now kinds.now residue.now objects }
+    ensures { IfOk result (λ objects. AreObjectsRead pairs.now kinds.now residue.now objects.items) }
 {
     let mut objects = vec![in alloc; 0u32; kinds.len()]?;
     let mut first = 0;
-    'pairs: for pair in profile.pairs() {
+    'degrees: for pair in pairs {
         let next = first + pair.1;
         let nodes = arrange_from(alloc, first, &residue[1 + first as usize..1 + next as usize])?;
         put_objects(kinds, pair.0 / 2, &nodes, &mut objects);
@@ -73,7 +75,8 @@ fn objects_of_residue(
 fn arrange_from(alloc: Global, first: u32, code: &[u64]) -> Result<Vec<u32>, AllocError>
     requires few { first + length code.now < 2 ^ 32 }
     requires is_code { IsArrangementCode code.now }
-    ensures { IfOk result (λ list. (order : List ℕ) → IsArrangementOf code.now order → list.items ≡ map (λ number. first + number) order) }
+    ensures list { IfOk result (λ list. (order : List ℕ) → IsArrangementOf code.now order → list.items ≡ map (λ number. first + number) order) }
+    ensures long { IfOk result (λ list. length list.items ≡ length code.now) }
 {
     let order = arrange(alloc, code)?;
     let mut list = Vec::new(alloc);
