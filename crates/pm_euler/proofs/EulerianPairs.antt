@@ -195,7 +195,7 @@ pub record HasResidueParts (pairs : List (ℕ × ℕ)) (residue : List ℕ) : Ty
   pub old_less : old_plant < suc (suc (edges_of pairs) - nodes_of_profile pairs)
   pub valid : IsValidList codes (flat_map (λ (p : ℕ × ℕ). code_bounds p.1) pairs ++ code_bounds (suc (edges_of pairs) - nodes_of_profile pairs))
 
-residue_parts : (pairs : List (ℕ × ℕ)) (residue : List ℕ) → IsValidList residue (eulerian_residues pairs) → HasResidueParts pairs residue
+pub residue_parts : (pairs : List (ℕ × ℕ)) (residue : List ℕ) → IsValidList residue (eulerian_residues pairs) → HasResidueParts pairs residue
 residue_parts pairs residue valid =
     let leaves : ℕ = suc (edges_of pairs) - nodes_of_profile pairs in
     let bounds : List ℕ = flat_map (λ (p : ℕ × ℕ). code_bounds p.1) pairs ++ code_bounds leaves in

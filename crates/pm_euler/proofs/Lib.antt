@@ -10,6 +10,7 @@ pub mod EulerianPairs
 pub mod EulerianParts
 pub mod EulerianSamples
 pub mod EulerianTrees
+pub mod EulerianUnsampled
 pub mod FilledRows
 pub mod FoldedKinds
 pub mod FreeLeaves

@@ -33,8 +33,15 @@ turn_on start xs few =
     ap₂ (λ (us vs : List ℕ). us ++ vs) (drop_at (drop (length xs - start) xs) (take (length xs - start) xs) start long) (take_at (drop (length xs - start) xs) (take (length xs - start) xs) start long)
     ∙ take-append-drop (length xs - start) xs
 
-length-turned : (start : ℕ) (xs : List ℕ) → start ≤ length xs → length (turned start xs) ≡ length xs
+pub length-turned : (start : ℕ) (xs : List ℕ) → start ≤ length xs → length (turned start xs) ≡ length xs
 length-turned start xs few = omega (arith, few, length-append (drop start xs) (take start xs), length-drop start xs, length-take-le start xs few)
+
+pub turned_permutes : (start : ℕ) (xs : List ℕ) → IsPermutationList xs → start ≤ length xs → IsPermutationList (turned start xs)
+turned_permutes start xs permute few =
+    standing_permutes (turned start xs)
+    (λ n inside.
+    let at = reached (slice_index xs) (length xs) n permute (let l = length-turned start xs few in omega (arith, inside, l)) in
+    stands_turned start xs n (at.from, record { within = at.below; here = at.value }))
 
 numbers_rise : (n : ℕ) → IsStrictlyIncreasing (numbers n)
 numbers_rise n k within =
@@ -57,6 +64,21 @@ pub record AreFound (pairs : List (ℕ × ℕ)) (halves : List ℕ) (start : ℕ
   pub arranged : IsPermutationList arrangement
   pub arranged_long : length arrangement ≡ suc (edges_of pairs)
   pub turned_is : objects ≡ turned start arrangement
+
+-- turned back by the start, objects are their arrangement
+abbrev pub found_of_objects : (pairs : List (ℕ × ℕ)) (halves : List ℕ) (start : ℕ) (codes objects : List ℕ) → half_degrees (halves_of pairs) objects ≡ halves → codes_by_degree pairs objects ≡ codes
+    → length objects ≡ suc (edges_of pairs) → IsPermutationList objects → start < suc (edges_of pairs) → AreFound pairs halves start codes
+found_of_objects pairs halves start codes objects halves_are codes_are long permute less = record {
+  objects = objects;
+  arrangement = turned (length objects - start) objects;
+  halves_are = halves_are;
+  codes_are = codes_are;
+  long = long;
+  permute = permute;
+  arranged = turned_permutes (length objects - start) objects permute (omega arith);
+  arranged_long = length-turned (length objects - start) objects (omega arith) ∙ long;
+  turned_is = sym (turn_on start objects (omega (arith, less, long)));
+}
 
 module _ (pairs : List (ℕ × ℕ)) (is : IsProfile pairs) (halves : List ℕ) (many : IsAsMany halves (half_degrees (halves_of pairs) (numbers (suc (edges_of pairs)))))
     (codes : List ℕ) (have : HaveCodes pairs (suc (edges_of pairs) - nodes_of_profile pairs) codes) where
@@ -186,17 +208,4 @@ module _ (pairs : List (ℕ × ℕ)) (is : IsProfile pairs) (halves : List ℕ) 
 
   pub objects_found : (start : ℕ) → start < suc (edges_of pairs) → AreFound pairs halves start codes
   objects_found start less =
-      let few : start ≤ length sorted.0 = omega (arith, less, sorted_long) in
-      let long : length (turned (length sorted.0 - start) sorted.0) ≡ length sorted.0 = length-turned (length sorted.0 - start) sorted.0 (omega arith) in
-      record {
-        objects = sorted.0;
-        arrangement = turned (length sorted.0 - start) sorted.0;
-        halves_are = sorted.1.keys_are;
-        codes_are = codes_sorted;
-        long = sorted_long;
-        permute = standing_permutes sorted.0 (λ object inside. stands object (omega (arith, inside, sorted_long)));
-        arranged = standing_permutes (turned (length sorted.0 - start) sorted.0)
-            (λ object inside. stands_turned (length sorted.0 - start) sorted.0 object (stands object (omega (arith, inside, long, sorted_long))));
-        arranged_long = long ∙ sorted_long;
-        turned_is = sym (turn_on start sorted.0 few);
-      }
+      found_of_objects pairs halves start codes sorted.0 sorted.1.keys_are codes_sorted sorted_long (standing_permutes sorted.0 (λ object inside. stands object (omega (arith, inside, sorted_long)))) less

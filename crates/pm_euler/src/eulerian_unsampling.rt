@@ -33,11 +33,12 @@ pub(crate) fn unsample_of_class(
     requires residue { IsValidList residue.now (eulerian_residues profile.now) }
     ensures { IfOk result (IsUnsampled eulerian_choices eulerian_residues SamplesEulerian IsEulerianAnswer map.now residue.now) }
 {
-    // The map is plane by its type, so its vertices have the degrees of the tree.
+    // The map is plane by its type, so its tree has as many nodes of each degree as it has vertices.
     let _edges = map.edges();
+    let pairs = profile.pairs();
     let unplanted = unplant(alloc, map, residue[residue.len() - 1] as u32)?;
     let kinds = kinds_of_tree(alloc, &unplanted.tree)?;
-    let objects = objects_of_residue(alloc, profile.pairs(), &kinds, residue)?;
+    let objects = objects_of_residue(alloc, pairs, &kinds, residue)?;
     let ranks = ranks_by_object(alloc, nodes_of(profile) as usize, &kinds, &objects)?;
     let arrangement = turned_back(alloc, &objects, residue[0] as u32)?;
     let mut choices = code(alloc, &arrangement)?;
