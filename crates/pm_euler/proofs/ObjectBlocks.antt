@@ -74,10 +74,10 @@ code_at f (p ∷ pairs) rest zero long less = ap (take p.1) (append_assoc (f p) 
 code_at f (p ∷ pairs) rest (suc k) long less =
     let s : nodes_before (p ∷ pairs) (suc k) ≡ p.1 + nodes_before pairs k = sum_by-cons (λ (q : ℕ × ℕ). q.1) p (take k pairs) in
     ap (take (pair_at pairs k).1) (
-      ap (λ (n : ℕ). drop n (flat_map f (p ∷ pairs) ++ rest)) s
-      ∙ sym (drop-drop (nodes_before pairs k) p.1 (flat_map f (p ∷ pairs) ++ rest))
-      ∙ ap (λ (xs : List ℕ). drop (nodes_before pairs k) (drop p.1 xs)) (append_assoc (f p) (flat_map f pairs) rest)
-      ∙ ap (drop (nodes_before pairs k)) (drop_at (f p) (flat_map f pairs ++ rest) p.1 (long 0 (omega arith)))
+    ap (λ (n : ℕ). drop n (flat_map f (p ∷ pairs) ++ rest)) s
+    ∙ sym (drop-drop (nodes_before pairs k) p.1 (flat_map f (p ∷ pairs) ++ rest))
+    ∙ ap (λ (xs : List ℕ). drop (nodes_before pairs k) (drop p.1 xs)) (append_assoc (f p) (flat_map f pairs) rest)
+    ∙ ap (drop (nodes_before pairs k)) (drop_at (f p) (flat_map f pairs ++ rest) p.1 (long 0 (omega arith)))
     ) ∙ code_at f pairs rest k (λ j within. long (suc j) (omega (arith, within))) (omega (arith, less))
 
 flat_long : (f : ℕ × ℕ → List ℕ) (pairs : List (ℕ × ℕ)) → ((j : ℕ) → j < length pairs → length (f (pair_at pairs j)) ≡ (pair_at pairs j).1) → length (flat_map f pairs) ≡ sum_by (λ (p : ℕ × ℕ). p.1) pairs

@@ -63,11 +63,19 @@ fn objects_of_residue(
     let mut first = 0;
     'degrees: for pair in pairs {
         let next = first + pair.1;
-        let nodes = arrange_from(alloc, first, &residue[1 + first as usize..1 + next as usize])?;
+        let nodes = arrange_from(
+            alloc,
+            first,
+            &residue[1 + first as usize..1 + next as usize],
+        )?;
         put_objects(kinds, pair.0 / 2, &nodes, &mut objects);
         first = next;
     }
-    let leaves = arrange_from(alloc, first, &residue[1 + first as usize..residue.len() - 1])?;
+    let leaves = arrange_from(
+        alloc,
+        first,
+        &residue[1 + first as usize..residue.len() - 1],
+    )?;
     put_objects(kinds, 0, &leaves, &mut objects);
     Ok(objects)
 }

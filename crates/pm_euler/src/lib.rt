@@ -27,6 +27,8 @@ pub use sample::{Sample, SampleRefusal, UnsampleRefusal};
 #[cfg(test)]
 mod eulerian_tests;
 #[cfg(test)]
+mod eulerian_unsampling_tests;
+#[cfg(test)]
 mod object_tests;
 #[cfg(test)]
 mod plane_planting_tests;
