@@ -18,6 +18,26 @@ fn unsamples_quartic_maps(rt: HostRuntime) -> Result<(), Fail> {
 }
 
 #[test]
+fn unsamples_eulerian_maps(rt: HostRuntime) -> Result<(), Fail> {
+    for (bytes, want) in [
+        (
+            b"map 2 0\nv 0 1 2 3\nend\nresidue 0 0 0 0 2\n".as_slice(),
+            b"choices 0 0 0 2 0\n".as_slice(),
+        ),
+        (
+            b"map 3 0\nv 0 2\nv 1 3 4 5\nend\nresidue 1 0 0 0 0 2\n".as_slice(),
+            b"choices 3 1 0 0 0 1 1\n".as_slice(),
+        ),
+    ] {
+        let run = run_on(&rt, rt.alloc(), "unsample eulerian", bytes, NONE)?;
+        assert_eq!(rt; run.status, 0);
+        assert_eq!(rt; run.out.bytes(), want);
+        assert_eq!(rt; run.err.bytes(), b"".as_slice());
+    }
+    Ok(())
+}
+
+#[test]
 fn unsamples_what_was_sampled(rt: HostRuntime) -> Result<(), Fail> {
     sampling_undoes_unsampling();
     for (size, choices) in [
@@ -105,6 +125,18 @@ fn refusals_of_pairs_that_come_from_no_choices(rt: HostRuntime) -> Result<(), Fa
         ),
         (
             "unsample quartic",
+            b"map 0 0\nend\nresidue 0\n".as_slice(),
+            6,
+            b"planarmap: map empty\n".as_slice(),
+        ),
+        (
+            "unsample eulerian",
+            b"map 1 0\nv 0\nv 1\nend\nresidue 0\n".as_slice(),
+            6,
+            b"planarmap: map vertex 0\n".as_slice(),
+        ),
+        (
+            "unsample eulerian",
             b"map 0 0\nend\nresidue 0\n".as_slice(),
             6,
             b"planarmap: map empty\n".as_slice(),
