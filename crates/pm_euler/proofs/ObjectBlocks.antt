@@ -1,6 +1,6 @@
 -- The objects of a half degree have numbers on end: those of a pair come after the nodes of the pairs before it, and the leaf
 -- objects after all nodes. So a code tells their order.
-use Rattle.std.proofs.Common.{◌≡◌, ℕ, zero, suc, ◌+◌, ◌-◌, ◌/◌, ◌<◌, ◌≤◌, ◌==◌, inl, inr, List, [], ◌∷◌, ◌++◌, length, map, filter, get_or, All, take, drop, replicate, ap, sym, ◌∙◌, subst, arith, append_assoc, drop-drop, length-append, eq-eqb, eqb-true}
+use Rattle.std.proofs.Common.{◌≡◌, ℕ, zero, suc, ◌+◌, ◌-◌, ◌/◌, ◌<◌, ◌≤◌, ◌==◌, inl, inr, List, [], ◌∷◌, ◌++◌, length, map, get_or, All, take, drop, replicate, ap, sym, ◌∙◌, arith, append_assoc, drop-drop, length-append, eq-eqb, eqb-true}
 use Rattle.std.specs.Prelude.{count_by, flat_map, slice_index}
 use Rattle.std.specs.List.{sum_by}
 use Rattle.std.proofs.lemmas.Bool.{cases_lt}

@@ -1,11 +1,9 @@
 -- The objects that kinds and a residue tell, put degree by degree at their places.
-use Rattle.std.proofs.Common.{◌≡◌, ℕ, zero, suc, ◌+◌, ◌-◌, ◌/◌, ◌<◌, ◌≤◌, ◌==◌, cond, inl, inr, List, [], ◌∷◌, ◌++◌, length, map, take, drop, refl, ap, ap₂, sym, ◌∙◌, subst, arith, append_assoc, append-nil, length-append, length-drop}
+use Rattle.std.proofs.Common.{◌≡◌, ℕ, suc, ◌+◌, ◌-◌, ◌/◌, ◌<◌, ◌≤◌, ◌==◌, cond, inl, inr, List, [], ◌∷◌, ◌++◌, length, map, take, drop, refl, ap, ap₂, sym, ◌∙◌, subst, arith, append_assoc, append-nil, length-append, length-drop}
 use Rattle.std.specs.Prelude.{count_by, flat_map, slice_index, slice_index_or}
-use Rattle.std.specs.List.{sum_by}
-use Rattle.std.proofs.lemmas.Bool.{cases_eq, cases_lt}
+use Rattle.std.proofs.lemmas.Bool.{cases_eq}
 use Rattle.std.proofs.lemmas.List.{length-map, get_or-map, ext_get_or, take_at, take-map}
 use Rattle.std.proofs.lemmas.List.Sums.{length-filter, sum_by-cons, sum_by_more, sum_by_more_le}
-use Rattle.pm_limits.specs.declared.TheConstants.{MAX_EDGES}
 use Rattle.pm_lehmer.specs.Lehmer.{code_of, IsArrangementCode, IsArrangementOf}
 use Rattle.pm_lehmer.proofs.Arranged.{code_of-is_code, length-code_of}
 use Rattle.pm_trees.specs.Pairs.{IsProfile, edges_of, pair_at}

@@ -1,11 +1,10 @@
-use Rattle.std.proofs.Common.{rules, ◌≡◌, ℕ, ◌+◌, ◌-◌, ◌<◌, ◌≤◌, List, ◌++◌, length, take, drop, ap, sym, ◌∙◌, subst, arith}
+use Rattle.std.proofs.Common.{◌≡◌, ℕ, ◌+◌, List, ◌++◌, length, take, drop, ap, sym, ◌∙◌, subst, arith}
 use Rattle.std.specs.Prelude.{slice_index}
 use Rattle.std.proofs.lemmas.List.{take_at}
-use Rattle.pm_trees.specs.Pairs.{edges_of, pair_at}
+use Rattle.pm_trees.specs.Pairs.{pair_at}
 use Rattle.pm_euler.specs.ObjectsRead.{AreObjectsRead}
-use Rattle.pm_euler.specs.Objects.{nodes_of_profile}
 use Rattle.pm_euler.proofs.ObjectLemmas.{halves_few, nodes_within, nodes_counted}
-use Rattle.pm_euler.proofs.ObjectsPut.{ArePutBefore, put_before_all, kinds_long, read_long, before_few, pair_slice_long, leaf_slice_long, pair_slice_code, leaf_slice_code, pair_kinds, leaf_kinds, put_pair, put_leaves}
+use Rattle.pm_euler.proofs.ObjectsPut.{ArePutBefore, read_long, before_few, pair_slice_long, leaf_slice_long, pair_slice_code, leaf_slice_code, pair_kinds, leaf_kinds, put_pair, put_leaves}
 use Rattle.pm_euler.proofs.eulerian_unsampling.objects_of_residue.Goals as goal
 
 pub overflow_add-next : goal.overflow_add-next

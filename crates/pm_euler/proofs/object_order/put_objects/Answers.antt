@@ -1,4 +1,4 @@
-use Rattle.std.proofs.Common.{rules, ◌≡◌, ◌+◌, ◌<◌, length, refl, arith}
+use Rattle.std.proofs.Common.{rules, refl, arith}
 use Rattle.std.specs.Prelude.{slice_index, slice_set}
 use Rattle.pm_euler.proofs.ObjectPlaces.{put_none, put_skipped, put_one, next_within}
 use Rattle.pm_euler.proofs.object_order.put_objects.Goals as goal

@@ -1,5 +1,3 @@
-use Rattle.std.proofs.Common.{◌≡◌, ℕ, ◌<◌, ◌==◌, List, length, slice_index, slice_index_or, count_by, take, IfOk, ◌+◌, ◌-◌, ◌*◌, ◌≤◌}
-use Rattle.pm_perm.specs.Permutation.{IsPermutationList}
 use Rattle.pm_euler.proofs.ObjectPlaces.{ArePut}
 use Rattle.pm_euler.proofs.object_order.put_objects.Given as goal
 

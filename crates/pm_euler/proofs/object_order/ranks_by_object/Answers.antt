@@ -1,4 +1,4 @@
-use Rattle.std.proofs.Common.{rules, ◌≡◌, ◌<◌, length, slice_index, slice_index_or, slice_set, refl, arith}
+use Rattle.std.proofs.Common.{rules, ◌<◌, length, slice_index, slice_index_or, slice_set, refl, arith}
 use Rattle.pm_euler.proofs.ObjectPlaces.{ranked_none, ranked_skipped, ranked_one}
 use Rattle.pm_euler.proofs.object_order.ranks_by_object.Goals as goal
 
