@@ -36,7 +36,7 @@ last_of residue codes start old_plant e =
     let place : length residue - 1 ≡ length (start ∷ codes) = omega (arith, long, length-append codes (old_plant ∷ [])) in
     ap₂ (λ (xs : List ℕ) (n : ℕ). slice_index xs n) e place ∙ get_or-append_seam (start ∷ codes) old_plant [] 0
 
-module _ (pairs : List (ℕ × ℕ)) (residue : List ℕ) (is : IsProfile pairs) (valid : IsValidList residue (eulerian_residues pairs)) where
+module _ (pairs : List (ℕ × ℕ)) (residue : List ℕ) (valid : IsValidList residue (eulerian_residues pairs)) where
   pub start_low : slice_index residue 0 < suc (edges_of pairs)
   start_low =
       let r = residue_parts pairs residue valid in
@@ -51,13 +51,10 @@ module _ (pairs : List (ℕ × ℕ)) (residue : List ℕ) (is : IsProfile pairs)
       let less = r.old_less in
       omega (arith, last, less)
 
-  pub some_residue : 0 < length residue
-  some_residue = let r = residue_parts pairs residue valid in let long = ap length r.whole in omega (arith, long)
-
 module _ (pairs : List (ℕ × ℕ)) (map : RotationSystem) (residue : List ℕ) (is : IsProfile pairs) (rooted : IsRootedMap map) (has : IsEulerian (structure_of map) pairs) (valid : IsValidList residue (eulerian_residues pairs)) where
   pub old_plant_is_leaf : (opening : List ℕ) → IsOpening map opening → slice_index residue (length residue - 1) < leaves opening
   old_plant_is_leaf opening o =
-      let low = old_plant_low pairs residue is valid in
+      let low = old_plant_low pairs residue valid in
       let many = opening_leaves pairs map is rooted has opening o in
       omega (arith, low, many)
 
@@ -88,7 +85,7 @@ module _ (pairs : List (ℕ × ℕ)) (map : RotationSystem) (residue : List ℕ)
       let start : ℕ = slice_index residue 0 in
       let old_plant : ℕ = slice_index residue (length residue - 1) in
       let codes : List ℕ = codes_by_degree pairs objects in
-      let less = start_low pairs residue is valid in
+      let less = start_low pairs residue valid in
       let few = halves_few pairs is in
       let named : (canonical : RotationSystem) × IsCanonicalOf map canonical = canonical_map_exists map rooted in
       let f = found_of_objects pairs (halves_in kinds) (slice_index residue 0) (codes_by_degree pairs objects) objects read.halves_are refl read.long read.permute less in

@@ -38,8 +38,8 @@ module _ (pairs kinds : List (ℕ × ℕ)) (residue objects : List ℕ) (is : Is
   has : HasObjects pairs objects
   has = arranged_objects pairs 0 objects objects is read.permute read.long (sym (append-nil objects))
 
-  pub kinds_long : length objects ≡ length kinds
-  kinds_long = sym (length-map objects (half_of (halves_of pairs))) ∙ ap length read.halves_are ∙ length-map kinds (λ (kind : ℕ × ℕ). kind.0)
+  pub as_many_kinds : length objects ≡ length kinds
+  as_many_kinds = sym (length-map objects (half_of (halves_of pairs))) ∙ ap length read.halves_are ∙ length-map kinds (λ (kind : ℕ × ℕ). kind.0)
 
   -- the code of the objects of a half degree, which is as long as their number
   abbrev pub half_code : ℕ → List ℕ
@@ -133,7 +133,7 @@ module _ (pairs kinds : List (ℕ × ℕ)) (residue objects : List ℕ) (is : Is
 
   object_half : (place : ℕ) → place < length kinds → half_of (halves_of pairs) (slice_index objects place) ≡ (slice_index_or kinds place (0, 0)).0
   object_half place less =
-      sym (get_or-map (half_of (halves_of pairs)) objects place 0 0 (omega (arith, less, kinds_long))) ∙ ap (λ (hs : List ℕ). slice_index hs place) read.halves_are
+      sym (get_or-map (half_of (halves_of pairs)) objects place 0 0 (omega (arith, less, as_many_kinds))) ∙ ap (λ (hs : List ℕ). slice_index hs place) read.halves_are
       ∙ get_or-map (λ (kind : ℕ × ℕ). kind.0) kinds place (0, 0) 0 less
 
   -- where an object stands in the list of its half degree
@@ -144,7 +144,7 @@ module _ (pairs kinds : List (ℕ × ℕ)) (residue objects : List ℕ) (is : Is
       sym (with_half_keys half (take place kinds))
       ∙ ap (count_by (λ y. y == half)) (sym (take-map (λ (kind : ℕ × ℕ). kind.0) place kinds) ∙ ap (take place) (sym read.halves_are)) in
       ap₂ (λ (xs : List ℕ) (n : ℕ). slice_index xs n) list_is counted
-      ∙ entry_with_key (half_of (halves_of pairs)) half objects place (omega (arith, less, kinds_long)) (object_half place less ∙ e)
+      ∙ entry_with_key (half_of (halves_of pairs)) half objects place (omega (arith, less, as_many_kinds)) (object_half place less ∙ e)
 
   -- the objects of one pair more
   pub put_pair : (list put after : List ℕ) (first k : ℕ) → ArePutBefore pairs kinds objects put first k → k < length pairs
@@ -171,7 +171,7 @@ module _ (pairs kinds : List (ℕ × ℕ)) (residue objects : List ℕ) (is : Is
       → ((place : ℕ) → place < length kinds → ((slice_index_or kinds place (0, 0)).0 ≡ 0 → ⊥) → slice_index after place ≡ slice_index put place)
       → after ≡ objects
   put_leaves list put after first k before past each long here others =
-      ext_get_or 0 after objects (long ∙ sym kinds_long)
+      ext_get_or 0 after objects (long ∙ sym as_many_kinds)
       (λ place within.
       let inside : place < length kinds = omega (arith, within, long) in
       elim (cases_eq (slice_index_or kinds place (0, 0)).0 0) [

@@ -6,12 +6,12 @@ use Rattle.pm_euler.specs.Objects.{nodes_of_profile}
 use Rattle.pm_euler.specs.ObjectsRead.{AreObjectsRead}
 use Rattle.pm_euler.proofs.EulerianPairs.{profile_darts, profile_degrees}
 use Rattle.pm_euler.proofs.EulerianUnsampled.{start_low, old_plant_low, old_plant_is_leaf, some_objects_read, unsampled_of_objects}
-use Rattle.pm_euler.proofs.ObjectsPut.{kinds_long}
+use Rattle.pm_euler.proofs.ObjectsPut.{as_many_kinds}
 use Rattle.pm_euler.proofs.eulerian_unsampling.unsample_of_class.Goals as goal
 
 pub overflow_cast-residue : goal.overflow_cast-residue
 overflow_cast-residue c =
-    let low = old_plant_low c.args.profile.now c.args.residue.now c.pairs-pairs.ensures.valid c.requires.residue in
+    let low = old_plant_low c.args.profile.now c.args.residue.now c.requires.residue in
     let few = c.pairs-pairs.ensures.valid.few in
     omega (arith, low, few)
 
@@ -36,18 +36,18 @@ objects_of_residue-requires-clause-some c =
 pub ranks_by_object-requires-clause-as_long : goal.ranks_by_object-requires-clause-as_long
 ranks_by_object-requires-clause-as_long c =
     let is = subst IsProfile (sym c.pairs-pairs.ensures.pairs) c.pairs-pairs.ensures.valid in
-    ap length c.deref-3.ensures.value ∙ kinds_long c.pairs-pairs.result.now c.deref.result.now c.args.residue.now c.in_ok-objects.objects.items is c.in_ok-objects.ensures
+    ap length c.deref-3.ensures.value ∙ as_many_kinds c.pairs-pairs.result.now c.deref.result.now c.args.residue.now c.in_ok-objects.objects.items is c.in_ok-objects.ensures
     ∙ ap length (c.deref.ensures.value ∙ sym c.deref-2.ensures.value)
 
 pub overflow_cast-residue-2 : goal.overflow_cast-residue-2
 overflow_cast-residue-2 c =
-    let low = start_low c.args.profile.now c.args.residue.now c.pairs-pairs.ensures.valid c.requires.residue in
+    let low = start_low c.args.profile.now c.args.residue.now c.requires.residue in
     let few = c.pairs-pairs.ensures.valid.few in
     omega (arith, low, few)
 
 pub turned_back-requires-clause-start : goal.turned_back-requires-clause-start
 turned_back-requires-clause-start c =
-    let low = start_low c.args.profile.now c.args.residue.now c.pairs-pairs.ensures.valid c.requires.residue in
+    let low = start_low c.args.profile.now c.args.residue.now c.requires.residue in
     let read = subst (λ (pairs : List (ℕ × ℕ)). AreObjectsRead pairs c.deref.result.now c.args.residue.now c.in_ok-objects.objects.items) c.pairs-pairs.ensures.pairs c.in_ok-objects.ensures in
     let long = ap length c.deref-4.ensures.value ∙ read.long in
     omega (arith, low, long)
