@@ -47,8 +47,8 @@ pub(crate) fn unsample_of_class(
     Ok(NumList::of(choices))
 }
 
-/// The objects of a profile with these pairs in preorder, where the kinds tell their half degrees, and the residue tells by an arrangement
-/// code in which order those of the same half degree come.
+/// The objects of a profile with these pairs in preorder, where the kinds tell their half degrees, and the residue tells by
+/// an arrangement code in which order those of the same half degree come.
 fn objects_of_residue(
     alloc: Global,
     pairs: &[(u32, u32)],
