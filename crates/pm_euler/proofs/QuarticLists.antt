@@ -8,7 +8,8 @@ use Rattle.pm_lists.specs.Valid.{IsValidList}
 use Rattle.pm_lehmer.specs.Lehmer.{code_of, IsArrangementCode, IsArrangementOf}
 use Rattle.pm_lehmer.proofs.Arranged.{has_arrangement, length-arrangement}
 use Rattle.pm_remy.specs.Tree.{Tree, labels_of, leaves, shape_of}
-use Rattle.pm_remy.specs.Growth.{grown, IsGrowth, ungrown}
+use Rattle.pm_remy.specs.Growth.{grown, IsGrowth}
+use Rattle.pm_remy.specs.steps.Ungrown.{ungrown}
 use Rattle.pm_remy.specs.Words.{tree_of}
 use Rattle.pm_remy.proofs.Reading.{whole-tree_of, shape-tree, leaves-shape}
 use Rattle.pm_remy.proofs.Ungrown.{growth-ungrown}

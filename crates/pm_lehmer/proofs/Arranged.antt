@@ -7,7 +7,7 @@ use Rattle.std.specs.Prelude.{nat_lt}
 use Rattle.std.proofs.lemmas.List.{take_more, take_more_set, append-nil, take_all, get_or_append_left, get_or_push, length-take-le}
 use Rattle.pm_perm.specs.Permutation.{IsPermutationList}
 use Rattle.pm_lehmer.specs.Lehmer.{count_below, code_of, IsArrangementCode, IsArrangementOf}
-use Rattle.pm_lehmer.specs.Counted.{start_of, IsCounted, IsOneMore}
+use Rattle.pm_lehmer.specs.steps.Counted.{start_of, IsCounted, IsOneMore}
 use Rattle.pm_lehmer.proofs.CountBelow.{count_below-nil, count_below-smaller, count_below-other, count_below-le-length, count_below-append, count_below-mono, count_below-stands, count_below-step, HasDifferentEntries}
 
 pub length-code_of : (entries : List ℕ) → length (code_of entries) ≡ length entries

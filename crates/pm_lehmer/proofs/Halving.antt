@@ -2,7 +2,7 @@
 use Rattle.std.proofs.Common.{◌≡◌, ◌≢◌, ℕ, zero, suc, ◌+◌, ◌-◌, ◌*◌, ◌/◌, ◌<◌, ◌≤◌, ◌⊎◌, List, length, get_or, refl, ap, sym, ◌∙◌, subst, arith, inl, inr, get_or-set_other, get_or-set_same}
 use Rattle.std.proofs.Math.ListN.{set, length-set}
 use Rattle.std.proofs.lemmas.Bool.{lt-ltb, le-ltb, cases_lt, cases_order, cond-true, cond-false}
-use Rattle.pm_lehmer.specs.Counted.{start_from, start_of, IsCounted, IsOneMore}
+use Rattle.pm_lehmer.specs.steps.Counted.{start_from, start_of, IsCounted, IsOneMore}
 
 start_from-left : (turns low high number : ℕ) → number < (low + high) / 2 → start_from (suc turns) low high number ≡ start_from turns low ((low + high) / 2) number
 unfolding start_from

@@ -8,7 +8,7 @@ use Rattle.std.specs.List.{All}
 use Rattle.std.specs.List.Sorted.{IsPermutation}
 use Rattle.std.proofs.lemmas.List.Sorted.{sum_by-IsPermutation}
 use Rattle.pm_lehmer.specs.Lehmer.{count_below, ranks_among, code_of}
-use Rattle.pm_lehmer.specs.Counted.{start_of, IsCounted, IsOneMore}
+use Rattle.pm_lehmer.specs.steps.Counted.{start_of, IsCounted, IsOneMore}
 use Rattle.pm_lehmer.proofs.CountBelow.{count_below-nil, count_below-smaller, count_below-other, count_below-le-length, count_below-mono, count_below-stands}
 use Rattle.pm_lehmer.proofs.Arranged.{count_below-zero}
 

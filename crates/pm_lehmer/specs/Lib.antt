@@ -1,2 +1,2 @@
 pub mod Lehmer
-pub mod Counted
+pub mod steps

@@ -1,7 +1,7 @@
 //! From a code to the permutation that has it.
 ghost use Rattle.std.specs.Prelude.{◌≡◌, ℕ, ◌^◌, ◌<◌, length, slice_index, EachIndex, IfOk};
 ghost use Rattle.pm_lehmer.specs.Lehmer.{IsArrangementCode, IsArrangementOf, IsOnlyArrangementOf};
-ghost use Rattle.pm_lehmer.specs.Counted.{IsCounted};
+ghost use Rattle.pm_lehmer.specs.steps.Counted.{IsCounted};
 
 use crate::counts::{put, take};
 use std::alloc::{AllocError, Global};

@@ -2,7 +2,7 @@
 //! over the halves of the interval from 0 to the length of the list: the count at a middle is of the numbers in
 //! the first half of its interval.
 ghost use Rattle.std.specs.Prelude.{◌≡◌, ℕ, ◌+◌, ◌^◌, ◌<◌, ◌≤◌, length, slice_index};
-ghost use Rattle.pm_lehmer.specs.Counted.{IsCounted, IsOneMore};
+ghost use Rattle.pm_lehmer.specs.steps.Counted.{IsCounted, IsOneMore};
 
 /// Puts a number in, and says how many smaller ones there were.
 pub(crate) fn put(counts: &mut [u32], number: usize) -> u64

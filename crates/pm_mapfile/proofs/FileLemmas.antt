@@ -4,7 +4,8 @@ use Rattle.std.specs.Prelude.{None, codes}
 use Rattle.std.proofs.lemmas.List.{append-nil, take-append-drop, length-map}
 use Rattle.pm_text.specs.Broken.{IsBrokenLine}
 use Rattle.pm_mapfile.specs.MapText.{vertex_lines, map_line}
-use Rattle.pm_mapfile.specs.MapFile.{lines_text, BeginsWithMapText, IsMapFile, IsReadMap}
+use Rattle.pm_mapfile.specs.MapFile.{lines_text, BeginsWithMapText, IsMapFile}
+use Rattle.pm_mapfile.specs.steps.Lines.{IsReadMap}
 use Rattle.pm_mapfile.proofs.ReadLemmas.{vertices_short}
 use Rattle.pm_mapfile.proofs.FormLemmas.{HasFront, broken_in_narrower, whole_map_text}
 

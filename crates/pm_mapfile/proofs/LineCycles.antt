@@ -13,7 +13,7 @@ use Rattle.pm_perm.proofs.LeaderMaps.{IsLeaderMap, cycles-count}
 use Rattle.pm_perm.proofs.Renumbered.{cycles-carried}
 use Rattle.pm_map.specs.Rotation.{structure_of}
 use Rattle.pm_map.specs.Plane.{vertices}
-use Rattle.pm_mapfile.specs.Rotation.{turned, turned_lines, AreSizes, CarriesOn, vertices_of_lines}
+use Rattle.pm_mapfile.specs.steps.Rotation.{turned, turned_lines, AreSizes, CarriesOn, vertices_of_lines}
 use Rattle.pm_mapfile.proofs.RotationLemmas.{length-turned, sum-cons, sizes_left}
 use Rattle.pm_mapfile.proofs.LinesLemmas.{carried_stand, carries_places}
 

@@ -12,7 +12,7 @@ use Rattle.pm_map.proofs.StandsLemmas.{Stands-append_left, Stands-append_right, 
 use Rattle.pm_perm.proofs.InverseLemmas.{standing_permutes}
 use Rattle.pm_mapfile.specs.MapFile.{MapLines, IsVertexLine, AreMapLines}
 use Rattle.pm_mapfile.specs.Vertices.{GoesAround, IsRotationOf}
-use Rattle.pm_mapfile.specs.Rotation.{turned, turned_lines, AreSizes, CarriesOn, TellsLines}
+use Rattle.pm_mapfile.specs.steps.Rotation.{turned, turned_lines, AreSizes, CarriesOn, TellsLines}
 use Rattle.pm_mapfile.proofs.RotationLemmas.{length-turned, sum-cons}
 
 -- the sizes of the lines

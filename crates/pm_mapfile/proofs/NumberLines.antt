@@ -15,7 +15,7 @@ use Rattle.pm_text.proofs.WordLemmas.{join-words, split-join, number_has_no_spac
 use Rattle.pm_mapfile.specs.MapText.{dart_words}
 use Rattle.pm_lists.specs.ListLine.{SpellsList, list_line}
 use Rattle.pm_lists.proofs.SpellingLemmas.{has_one_line}
-use Rattle.pm_mapfile.specs.MapFile.{IsNumbersLine}
+use Rattle.pm_mapfile.specs.steps.Lines.{IsNumbersLine}
 
 abbrev pub Fits64 : ℕ → Type 0
 Fits64 number = number < 2 ^ 64

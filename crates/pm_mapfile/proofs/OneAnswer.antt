@@ -20,7 +20,7 @@ use Rattle.pm_map.proofs.UniqueParts.{one_map_answer, least_missing_is_unique}
 use Rattle.pm_mapfile.specs.declared.refusal.FileRefusal.TheVariants.{Memory, Text, Map}
 use Rattle.pm_mapfile.specs.MapFile.{MapLines, lines_text, BeginsWithMapText, IsResidue, IsMapFile, IsSampleFile}
 use Rattle.pm_mapfile.specs.Vertices.{GoesAround, IsRotationOf}
-use Rattle.pm_mapfile.specs.Answers.{HasTooManyEdges, LeavesOut, TellsRotation, IsLinesAnswer, AnswersText, AnswersFile, HasOneMapTextAnswer, HasOneMapFileAnswer, HasOneSampleFileAnswer}
+use Rattle.pm_mapfile.specs.Answers.{HasTooManyEdges, LeavesOut, TellsRotation, IsLinesAnswer, AnswersText, AnswersFile, IsAnswerOfForm, HasOneAnswer, HasOneMapTextAnswer, HasOneMapFileAnswer, HasOneSampleFileAnswer}
 use Rattle.pm_mapfile.proofs.TailLemmas.{cut_alike}
 use Rattle.pm_mapfile.proofs.FormLemmas.{texts_alike}
 
@@ -101,22 +101,16 @@ lines_alike m limit first second a b n k =
       ]
     ]
 
--- bytes that begin with a map text have one answer to its lines, and one place after it
-record AreAlike (after other : ℕ) (first second : Result RootedMap MapRefusal) : Type 0 where
-  place : after ≡ other
+-- what is read twice of the same bytes is one, and so is the answer to the lines
+record AreAlike {Read : Type 0} (one other : Read) (first second : Result RootedMap MapRefusal) : Type 0 where
+  read : one ≡ other
   same : first ≡ second
 
-texts_answered_alike : (bytes : List ℕ) (limit after other : ℕ) (first second : Result RootedMap MapRefusal) → AnswersText bytes limit after first → AnswersText bytes limit other second
-    → (first ≡ Err MemoryOfMap → ⊥) → (second ≡ Err MemoryOfMap → ⊥) → AreAlike after other first second
-texts_answered_alike bytes limit after other first second a b n k =
-    let alike = texts_alike a.lines b.lines a.rest b.rest a.are_lines b.are_lines (sym a.spelled ∙ b.spelled) in
-    record {
-      place = a.place ∙ ap (λ m. length (lines_text m)) alike.lines ∙ sym b.place;
-      same = lines_alike b.lines limit first second (subst (λ m. IsLinesAnswer m limit first) alike.lines a.answered) b.answered n k;
-    }
-
-begins : (bytes : List ℕ) (limit after : ℕ) (answer : Result RootedMap MapRefusal) → AnswersText bytes limit after answer → BeginsWithMapText bytes
-begins bytes limit after answer a = record { lines = a.lines; are_lines = a.are_lines; rest = a.rest; spelled = a.spelled }
+-- bytes of which something is read have the form, and it is read once
+record AreReadOnce {Read : Type 0} (form : List ℕ → Type 0) (reads : Read → Result RootedMap MapRefusal → Type 0) (bytes : List ℕ) : Type 0 where
+  formed : (read : Read) (answer : Result RootedMap MapRefusal) → reads read answer → form bytes
+  once : (read other : Read) (first second : Result RootedMap MapRefusal) → reads read first → reads other second
+      → (first ≡ Err MemoryOfMap → ⊥) → (second ≡ Err MemoryOfMap → ⊥) → AreAlike read other first second
 
 -- a map isn't want of memory
 ok_not_memory : (m : RootedMap) → ◌≡◌ {A = Result RootedMap MapRefusal} (Ok m) (Err MemoryOfMap) → ⊥
@@ -136,26 +130,43 @@ map_of_ok m n e = cc
 refusal_of_err : (r s : MapRefusal) → ◌≡◌ {A = Result RootedMap MapRefusal} (Err r) (Err s) → r ≡ s
 refusal_of_err r s e = cc
 
-pub one_text_answer : HasOneMapTextAnswer
-one_text_answer bytes limit (Ok a) (Ok b) f g n k =
-    let alike = texts_answered_alike bytes limit a.1 b.1 (Ok a.0) (Ok b.0) f g (ok_not_memory a.0) (ok_not_memory b.0) in
-    ap (λ (m : RootedMap). Ok (m, a.1)) (map_of_ok a.0 b.0 alike.same) ∙ ap (λ (p : ℕ). Ok (b.0, p)) alike.place
-one_text_answer bytes limit (Ok a) (Err (Text line)) f g n k = absurd (valid_has_no_broken_line BeginsWithMapText bytes line (begins bytes limit a.1 (Ok a.0) f) g)
-one_text_answer bytes limit (Ok a) (Err (Map r)) f g n k =
-    let alike = texts_answered_alike bytes limit a.1 g.0.0 (Ok a.0) (Err r) f g.0.1 (ok_not_memory a.0) (err_not_memory r g.1) in absurd (ok_not_err a.0 r alike.same)
-one_text_answer bytes limit (Ok a) (Err Memory) f g n k = absurd (k refl)
-one_text_answer bytes limit (Err (Text line)) (Ok b) f g n k = absurd (valid_has_no_broken_line BeginsWithMapText bytes line (begins bytes limit b.1 (Ok b.0) g) f)
-one_text_answer bytes limit (Err (Text line)) (Err (Text other)) f g n k = ap (λ (l : ℕ). Err (Text l)) (broken_line_is_unique BeginsWithMapText bytes line other f g)
-one_text_answer bytes limit (Err (Text line)) (Err (Map r)) f g n k = absurd (valid_has_no_broken_line BeginsWithMapText bytes line (begins bytes limit g.0.0 (Err r) g.0.1) f)
-one_text_answer bytes limit (Err (Text line)) (Err Memory) f g n k = absurd (k refl)
-one_text_answer bytes limit (Err (Map r)) (Ok b) f g n k =
-    let alike = texts_answered_alike bytes limit b.1 f.0.0 (Ok b.0) (Err r) g f.0.1 (ok_not_memory b.0) (err_not_memory r f.1) in absurd (ok_not_err b.0 r alike.same)
-one_text_answer bytes limit (Err (Map r)) (Err (Text line)) f g n k = absurd (valid_has_no_broken_line BeginsWithMapText bytes line (begins bytes limit f.0.0 (Err r) f.0.1) g)
-one_text_answer bytes limit (Err (Map r)) (Err (Map s)) f g n k =
-    let alike = texts_answered_alike bytes limit f.0.0 g.0.0 (Err r) (Err s) f.0.1 g.0.1 (err_not_memory r f.1) (err_not_memory s g.1) in
+-- bytes that are read once have one answer of a form
+one_answer_of_form : {Read : Type 0} (form : List ℕ → Type 0) (reads : Read → Result RootedMap MapRefusal → Type 0) (bytes : List ℕ) → AreReadOnce form reads bytes
+    → HasOneAnswer (IsAnswerOfForm form reads bytes)
+one_answer_of_form {Read = Read} form reads bytes law (Ok a) (Ok b) f g n k =
+    let alike = law.once a.1 b.1 (Ok a.0) (Ok b.0) f g (ok_not_memory a.0) (ok_not_memory b.0) in
+    ap (λ (m : RootedMap). Ok (m, a.1)) (map_of_ok a.0 b.0 alike.same) ∙ ap (λ (read : Read). Ok (b.0, read)) alike.read
+one_answer_of_form form reads bytes law (Ok a) (Err (Text line)) f g n k = absurd (valid_has_no_broken_line form bytes line (law.formed a.1 (Ok a.0) f) g)
+one_answer_of_form form reads bytes law (Ok a) (Err (Map r)) f g n k =
+    let alike = law.once a.1 g.0.0 (Ok a.0) (Err r) f g.0.1 (ok_not_memory a.0) (err_not_memory r g.1) in absurd (ok_not_err a.0 r alike.same)
+one_answer_of_form form reads bytes law (Ok a) (Err Memory) f g n k = absurd (k refl)
+one_answer_of_form form reads bytes law (Err (Text line)) (Ok b) f g n k = absurd (valid_has_no_broken_line form bytes line (law.formed b.1 (Ok b.0) g) f)
+one_answer_of_form form reads bytes law (Err (Text line)) (Err (Text other)) f g n k = ap (λ (l : ℕ). Err (Text l)) (broken_line_is_unique form bytes line other f g)
+one_answer_of_form form reads bytes law (Err (Text line)) (Err (Map r)) f g n k = absurd (valid_has_no_broken_line form bytes line (law.formed g.0.0 (Err r) g.0.1) f)
+one_answer_of_form form reads bytes law (Err (Text line)) (Err Memory) f g n k = absurd (k refl)
+one_answer_of_form form reads bytes law (Err (Map r)) (Ok b) f g n k =
+    let alike = law.once b.1 f.0.0 (Ok b.0) (Err r) g f.0.1 (ok_not_memory b.0) (err_not_memory r f.1) in absurd (ok_not_err b.0 r alike.same)
+one_answer_of_form form reads bytes law (Err (Map r)) (Err (Text line)) f g n k = absurd (valid_has_no_broken_line form bytes line (law.formed f.0.0 (Err r) f.0.1) g)
+one_answer_of_form form reads bytes law (Err (Map r)) (Err (Map s)) f g n k =
+    let alike = law.once f.0.0 g.0.0 (Err r) (Err s) f.0.1 g.0.1 (err_not_memory r f.1) (err_not_memory s g.1) in
     ap (λ (x : MapRefusal). Err (Map x)) (refusal_of_err r s alike.same)
-one_text_answer bytes limit (Err (Map r)) (Err Memory) f g n k = absurd (k refl)
-one_text_answer bytes limit (Err Memory) second f g n k = absurd (n refl)
+one_answer_of_form form reads bytes law (Err (Map r)) (Err Memory) f g n k = absurd (k refl)
+one_answer_of_form form reads bytes law (Err Memory) second f g n k = absurd (n refl)
+
+-- bytes that begin with a map text
+texts_are_read_once : (bytes : List ℕ) (limit : ℕ) → AreReadOnce BeginsWithMapText (λ after. AnswersText bytes limit after) bytes
+texts_are_read_once bytes limit = record {
+  formed = λ after answer a. record { lines = a.lines; are_lines = a.are_lines; rest = a.rest; spelled = a.spelled };
+  once = λ after other first second a b n k.
+      let alike = texts_alike a.lines b.lines a.rest b.rest a.are_lines b.are_lines (sym a.spelled ∙ b.spelled) in
+      record {
+        read = a.place ∙ ap (λ m. length (lines_text m)) alike.lines ∙ sym b.place;
+        same = lines_alike b.lines limit first second (subst (λ m. IsLinesAnswer m limit first) alike.lines a.answered) b.answered n k;
+      };
+}
+
+pub one_text_answer : HasOneMapTextAnswer
+one_text_answer bytes limit = one_answer_of_form BeginsWithMapText (λ after. AnswersText bytes limit after) bytes (texts_are_read_once bytes limit)
 
 -- what may follow a map text has one reading
 tag : List ℕ
@@ -177,67 +188,32 @@ residue_alike (Some numbers) (Some others) a b e f g =
     (subst (λ l. SpellsList tag l numbers) alike.line (line_is_read_again tag numbers f.fit)) (line_is_read_again tag others g.fit) in
     ap (λ (l : List ℕ). Some l) same
 
--- bytes that are a map file have one answer to its lines, and one residue
-record AreFilesAlike (one other : Option (List ℕ)) (first second : Result RootedMap MapRefusal) : Type 0 where
-  residue : one ≡ other
-  same : first ≡ second
-
-files_answered_alike : (bytes : List ℕ) (limit : ℕ) (residue other : Option (List ℕ)) (first second : Result RootedMap MapRefusal) → AnswersFile bytes limit residue first
-    → AnswersFile bytes limit other second → (first ≡ Err MemoryOfMap → ⊥) → (second ≡ Err MemoryOfMap → ⊥) → AreFilesAlike residue other first second
-files_answered_alike bytes limit residue other first second a b n k =
-    let alike = texts_alike a.lines b.lines a.rest b.rest a.are_lines b.are_lines (sym a.spelled ∙ b.spelled) in
-    record {
-      residue = residue_alike residue other a.rest b.rest alike.rest a.is_residue b.is_residue;
-      same = lines_alike b.lines limit first second (subst (λ m. IsLinesAnswer m limit first) alike.lines a.answered) b.answered n k;
-    }
-
-is_file : (bytes : List ℕ) (limit : ℕ) (residue : Option (List ℕ)) (answer : Result RootedMap MapRefusal) → AnswersFile bytes limit residue answer → IsMapFile bytes
-is_file bytes limit residue answer a = record { lines = a.lines; are_lines = a.are_lines; rest = a.rest; after = (residue, a.is_residue); spelled = a.spelled }
+-- bytes that are a map file
+files_are_read_once : (bytes : List ℕ) (limit : ℕ) → AreReadOnce IsMapFile (λ residue. AnswersFile bytes limit residue) bytes
+files_are_read_once bytes limit = record {
+  formed = λ residue answer a. record { lines = a.lines; are_lines = a.are_lines; rest = a.rest; after = (residue, a.is_residue); spelled = a.spelled };
+  once = λ residue other first second a b n k.
+      let alike = texts_alike a.lines b.lines a.rest b.rest a.are_lines b.are_lines (sym a.spelled ∙ b.spelled) in
+      record {
+        read = residue_alike residue other a.rest b.rest alike.rest a.is_residue b.is_residue;
+        same = lines_alike b.lines limit first second (subst (λ m. IsLinesAnswer m limit first) alike.lines a.answered) b.answered n k;
+      };
+}
 
 pub one_file_answer : HasOneMapFileAnswer
-one_file_answer bytes limit (Ok a) (Ok b) f g n k =
-    let alike = files_answered_alike bytes limit a.1 b.1 (Ok a.0) (Ok b.0) f g (ok_not_memory a.0) (ok_not_memory b.0) in
-    ap (λ (m : RootedMap). Ok (m, a.1)) (map_of_ok a.0 b.0 alike.same) ∙ ap (λ (p : Option NumList). Ok (b.0, p)) alike.residue
-one_file_answer bytes limit (Ok a) (Err (Text line)) f g n k = absurd (valid_has_no_broken_line IsMapFile bytes line (is_file bytes limit a.1 (Ok a.0) f) g)
-one_file_answer bytes limit (Ok a) (Err (Map r)) f g n k =
-    let alike = files_answered_alike bytes limit a.1 g.0.0 (Ok a.0) (Err r) f g.0.1 (ok_not_memory a.0) (err_not_memory r g.1) in absurd (ok_not_err a.0 r alike.same)
-one_file_answer bytes limit (Ok a) (Err Memory) f g n k = absurd (k refl)
-one_file_answer bytes limit (Err (Text line)) (Ok b) f g n k = absurd (valid_has_no_broken_line IsMapFile bytes line (is_file bytes limit b.1 (Ok b.0) g) f)
-one_file_answer bytes limit (Err (Text line)) (Err (Text other)) f g n k = ap (λ (l : ℕ). Err (Text l)) (broken_line_is_unique IsMapFile bytes line other f g)
-one_file_answer bytes limit (Err (Text line)) (Err (Map r)) f g n k = absurd (valid_has_no_broken_line IsMapFile bytes line (is_file bytes limit g.0.0 (Err r) g.0.1) f)
-one_file_answer bytes limit (Err (Text line)) (Err Memory) f g n k = absurd (k refl)
-one_file_answer bytes limit (Err (Map r)) (Ok b) f g n k =
-    let alike = files_answered_alike bytes limit b.1 f.0.0 (Ok b.0) (Err r) g f.0.1 (ok_not_memory b.0) (err_not_memory r f.1) in absurd (ok_not_err b.0 r alike.same)
-one_file_answer bytes limit (Err (Map r)) (Err (Text line)) f g n k = absurd (valid_has_no_broken_line IsMapFile bytes line (is_file bytes limit f.0.0 (Err r) f.0.1) g)
-one_file_answer bytes limit (Err (Map r)) (Err (Map s)) f g n k =
-    let alike = files_answered_alike bytes limit f.0.0 g.0.0 (Err r) (Err s) f.0.1 g.0.1 (err_not_memory r f.1) (err_not_memory s g.1) in
-    ap (λ (x : MapRefusal). Err (Map x)) (refusal_of_err r s alike.same)
-one_file_answer bytes limit (Err (Map r)) (Err Memory) f g n k = absurd (k refl)
-one_file_answer bytes limit (Err Memory) second f g n k = absurd (n refl)
-
-is_sample_file : (bytes : List ℕ) (limit : ℕ) (residue : List ℕ) (answer : Result RootedMap MapRefusal) → AnswersFile bytes limit (Some residue) answer → IsSampleFile bytes
-is_sample_file bytes limit residue answer a = record { lines = a.lines; are_lines = a.are_lines; rest = a.rest; after = (residue, a.is_residue); spelled = a.spelled }
+one_file_answer bytes limit = one_answer_of_form IsMapFile (λ residue. AnswersFile bytes limit residue) bytes (files_are_read_once bytes limit)
 
 numbers_of_some : (one other : List ℕ) → ◌≡◌ {A = Option (List ℕ)} (Some one) (Some other) → one ≡ other
 numbers_of_some one other e = cc
 
+-- bytes that are a sample file
+samples_are_read_once : (bytes : List ℕ) (limit : ℕ) → AreReadOnce IsSampleFile (λ residue. AnswersFile bytes limit (Some residue)) bytes
+samples_are_read_once bytes limit = record {
+  formed = λ residue answer a. record { lines = a.lines; are_lines = a.are_lines; rest = a.rest; after = (residue, a.is_residue); spelled = a.spelled };
+  once = λ residue other first second a b n k.
+      let alike = (files_are_read_once bytes limit).once (Some residue) (Some other) first second a b n k in
+      record { read = numbers_of_some residue other alike.read; same = alike.same };
+}
+
 pub one_sample_answer : HasOneSampleFileAnswer
-one_sample_answer bytes limit (Ok a) (Ok b) f g n k =
-    let alike = files_answered_alike bytes limit (Some a.1) (Some b.1) (Ok a.0) (Ok b.0) f g (ok_not_memory a.0) (ok_not_memory b.0) in
-    ap (λ (m : RootedMap). Ok (m, a.1)) (map_of_ok a.0 b.0 alike.same) ∙ ap (λ (p : NumList). Ok (b.0, p)) (numbers_of_some a.1 b.1 alike.residue)
-one_sample_answer bytes limit (Ok a) (Err (Text line)) f g n k = absurd (valid_has_no_broken_line IsSampleFile bytes line (is_sample_file bytes limit a.1 (Ok a.0) f) g)
-one_sample_answer bytes limit (Ok a) (Err (Map r)) f g n k =
-    let alike = files_answered_alike bytes limit (Some a.1) (Some g.0.0) (Ok a.0) (Err r) f g.0.1 (ok_not_memory a.0) (err_not_memory r g.1) in absurd (ok_not_err a.0 r alike.same)
-one_sample_answer bytes limit (Ok a) (Err Memory) f g n k = absurd (k refl)
-one_sample_answer bytes limit (Err (Text line)) (Ok b) f g n k = absurd (valid_has_no_broken_line IsSampleFile bytes line (is_sample_file bytes limit b.1 (Ok b.0) g) f)
-one_sample_answer bytes limit (Err (Text line)) (Err (Text other)) f g n k = ap (λ (l : ℕ). Err (Text l)) (broken_line_is_unique IsSampleFile bytes line other f g)
-one_sample_answer bytes limit (Err (Text line)) (Err (Map r)) f g n k = absurd (valid_has_no_broken_line IsSampleFile bytes line (is_sample_file bytes limit g.0.0 (Err r) g.0.1) f)
-one_sample_answer bytes limit (Err (Text line)) (Err Memory) f g n k = absurd (k refl)
-one_sample_answer bytes limit (Err (Map r)) (Ok b) f g n k =
-    let alike = files_answered_alike bytes limit (Some b.1) (Some f.0.0) (Ok b.0) (Err r) g f.0.1 (ok_not_memory b.0) (err_not_memory r f.1) in absurd (ok_not_err b.0 r alike.same)
-one_sample_answer bytes limit (Err (Map r)) (Err (Text line)) f g n k = absurd (valid_has_no_broken_line IsSampleFile bytes line (is_sample_file bytes limit f.0.0 (Err r) f.0.1) g)
-one_sample_answer bytes limit (Err (Map r)) (Err (Map s)) f g n k =
-    let alike = files_answered_alike bytes limit (Some f.0.0) (Some g.0.0) (Err r) (Err s) f.0.1 g.0.1 (err_not_memory r f.1) (err_not_memory s g.1) in
-    ap (λ (x : MapRefusal). Err (Map x)) (refusal_of_err r s alike.same)
-one_sample_answer bytes limit (Err (Map r)) (Err Memory) f g n k = absurd (k refl)
-one_sample_answer bytes limit (Err Memory) second f g n k = absurd (n refl)
+one_sample_answer bytes limit = one_answer_of_form IsSampleFile (λ residue. AnswersFile bytes limit (Some residue)) bytes (samples_are_read_once bytes limit)

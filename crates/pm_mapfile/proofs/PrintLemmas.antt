@@ -11,7 +11,8 @@ use Rattle.pm_canon.specs.Kept.{HasEachOnce, IsWhole, IsKept, IsMeetingOrder}
 use Rattle.pm_canon.proofs.KeptLemmas.{HasEachOnce-push, HasEachOnce-length}
 use Rattle.pm_canon.proofs.MeetingLemmas.{IsKept-none}
 use Rattle.pm_canon.proofs.WalkLemmas.{IsWay, IsWay-one, IsWay-push, IsWay-fresh, IsWay-vertex, IsWay-below}
-use Rattle.pm_mapfile.specs.MapText.{dart_words, vertex_line, vertex_lines, AppendsLine, AppendsLines}
+use Rattle.pm_mapfile.specs.MapText.{dart_words, vertex_line, vertex_lines}
+use Rattle.pm_mapfile.specs.steps.Printed.{AppendsLine, AppendsLines}
 
 pub dart_words-append : (first second : List ℕ) → dart_words (first ++ second) ≡ dart_words first ++ dart_words second
 dart_words-append [] second = refl

@@ -12,7 +12,8 @@ use Rattle.pm_text.proofs.LineLemmas.{IsWholeLines, no_whole_lines}
 use Rattle.pm_text.proofs.ReadingLemmas.{whole_after_line}
 use Rattle.pm_text.proofs.ReaderLemmas.{broken_at_line, broken_at_end}
 use Rattle.pm_mapfile.specs.MapText.{dart_words, vertex_line, vertex_lines, map_line}
-use Rattle.pm_mapfile.specs.MapFile.{MapLines, IsFirstLine, IsVertexLine, lines_text, BeginsWithMapText, IsNumbersLine, IsReadMap, AppendsVertex, HasNoRoomFor}
+use Rattle.pm_mapfile.specs.MapFile.{MapLines, IsFirstLine, IsVertexLine, lines_text, BeginsWithMapText}
+use Rattle.pm_mapfile.specs.steps.Lines.{IsNumbersLine, IsReadMap, AppendsVertex, HasNoRoomFor}
 use Rattle.pm_mapfile.proofs.PrintLemmas.{vertex_lines-append}
 use Rattle.pm_mapfile.proofs.NumberLines.{numbers_are_unique}
 use Rattle.pm_mapfile.proofs.TailLemmas.{IsTail, IsNextOf, ends, goes_on, next_of_tail, tail_has_newline, some_tail, FollowsLines, past_lines, before_lines, first_of_text, text_of_first, first_text, first_line_spelled, first_no_newline, two_fit, text_has_newline, v_not_end, tag_map_no_space, tag_map_some}

@@ -13,7 +13,8 @@ use Rattle.pm_text.proofs.ReaderLemmas.{broken_at_line, broken_at_end}
 use Rattle.pm_lists.specs.ListLine.{list_line}
 use Rattle.pm_mapfile.proofs.NumberLines.{list_line_tagged}
 use Rattle.pm_mapfile.specs.MapText.{dart_words}
-use Rattle.pm_mapfile.specs.MapFile.{MapLines, lines_text, IsNumbersLine, IsTextBefore, IsAfterMap, IsResidue, IsReadMap}
+use Rattle.pm_mapfile.specs.MapFile.{MapLines, lines_text, IsTextBefore, IsAfterMap, IsResidue}
+use Rattle.pm_mapfile.specs.steps.Lines.{IsNumbersLine, IsReadMap}
 use Rattle.pm_mapfile.proofs.NumberLines.{Fits64, dart_words_no_newline}
 use Rattle.pm_mapfile.proofs.TailLemmas.{cut_alike, has_newline}
 use Rattle.pm_mapfile.proofs.FormLemmas.{broken_past_front, whole_map_text, after_alike}

@@ -1,7 +1,7 @@
 -- What the numbers of a line tell of a first line, and of the line of a vertex.
 use Rattle.std.proofs.Common.{◌≡◌, ℕ, ◌+◌, ◌<◌, Bool, true, false, List, [], ◌∷◌, length, get_or, sym, ap, ◌∙◌, subst, arith}
 use Rattle.std.specs.Prelude.{All, IsTrue, codes}
-use Rattle.pm_mapfile.specs.MapFile.{IsNumbersLine, IsFirstText, HasNoRoomFor}
+use Rattle.pm_mapfile.specs.steps.Lines.{IsNumbersLine, IsFirstText, HasNoRoomFor}
 use Rattle.pm_mapfile.proofs.NumberLines.{numbers_are_unique}
 use Rattle.pm_mapfile.proofs.TailLemmas.{tag_v_no_space, tag_v_some, tag_map_no_space, tag_map_some}
 

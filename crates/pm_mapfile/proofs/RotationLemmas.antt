@@ -10,7 +10,7 @@ use Rattle.std.proofs.Math.Seq.{take-append_seam}
 use Rattle.pm_map.specs.declared.refusal.MapRefusal.{MapRefusal}
 use Rattle.pm_map.specs.declared.refusal.MapRefusal.TheVariants.{Memory, TooMany, NotPermutation, NotConnected, Genus}
 use Rattle.pm_map.proofs.MarksLemmas.{MatchOption-weaker}
-use Rattle.pm_mapfile.specs.Rotation.{turned, turned_lines, AreSizes, IsFollowed, AreFollowers, AreAllTold, IsFirstUntold, IsToldAnswer, IsRotationAnswer}
+use Rattle.pm_mapfile.specs.steps.Rotation.{turned, turned_lines, AreSizes, IsFollowed, AreFollowers, AreAllTold, IsFirstUntold, IsToldAnswer, IsRotationAnswer}
 
 -- a line turned by one has as many darts
 pub length-turned : (darts : List ℕ) → length (turned darts) ≡ length darts

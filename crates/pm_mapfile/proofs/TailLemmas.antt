@@ -10,7 +10,8 @@ use Rattle.pm_text.specs.Spaced.{HasNoSpace}
 use Rattle.pm_text.proofs.LineLemmas.{HasNoNewline-nil, HasNoNewline-cons, HasNoNewline-head, HasNoNewline-tail, HasNoNewline-append}
 use Rattle.pm_text.proofs.WordLemmas.{HasNoSpace-nil, HasNoSpace-cons}
 use Rattle.pm_mapfile.specs.MapText.{dart_words, vertex_line, vertex_lines, map_line}
-use Rattle.pm_mapfile.specs.MapFile.{MapLines, IsFirstLine, IsVertexLine, lines_text, BeginsWithMapText, IsNumbersLine}
+use Rattle.pm_mapfile.specs.MapFile.{MapLines, IsFirstLine, IsVertexLine, lines_text, BeginsWithMapText}
+use Rattle.pm_mapfile.specs.steps.Lines.{IsNumbersLine}
 use Rattle.pm_mapfile.proofs.PrintLemmas.{vertex_lines-append}
 use Rattle.pm_mapfile.proofs.NumberLines.{Fits64, numbers_are_unique, dart_words_no_newline}
 

@@ -12,12 +12,13 @@ use Rattle.pm_lists.specs.declared.num_list.NumList.{NumList}
 use Rattle.pm_mapfile.specs.declared.file.ReadFile.{ReadFile}
 use Rattle.pm_mapfile.specs.declared.read.TextRefusal.{TextRefusal}
 use Rattle.pm_mapfile.specs.declared.read.TextRefusal.TheVariants.{Memory as MemoryOfText, Text as LineOfText}
-use Rattle.pm_mapfile.specs.MapFile.{MapLines, AreMapLines, IsReadMap, IsResidue}
-use Rattle.pm_mapfile.specs.ReadText.{IsReadTextAnswer, IsResidueAnswer}
-use Rattle.pm_mapfile.specs.ReadFile.{IsReadFileAnswer}
-use Rattle.pm_mapfile.specs.Rotation.{turned_lines, CarriesOn, IsRotationAnswer, IsTextAnswer}
-use Rattle.pm_mapfile.specs.Refusals.{refusal_of_text, refusal_of_map}
-use Rattle.pm_mapfile.specs.Answers.{IsLinesAnswer, AnswersText, AnswersFile, IsMapTextAnswer, IsMapFileAnswer, IsSampleFileAnswer}
+use Rattle.pm_mapfile.specs.MapFile.{MapLines, AreMapLines, BeginsWithMapText, IsMapFile, IsSampleFile, IsResidue}
+use Rattle.pm_mapfile.specs.steps.Lines.{IsReadMap}
+use Rattle.pm_mapfile.specs.steps.ReadText.{IsReadTextAnswer, IsResidueAnswer}
+use Rattle.pm_mapfile.specs.steps.ReadFile.{IsReadFileAnswer}
+use Rattle.pm_mapfile.specs.steps.Rotation.{turned_lines, CarriesOn, IsRotationAnswer, IsTextAnswer}
+use Rattle.pm_mapfile.specs.steps.Refusals.{refusal_of_text, refusal_of_map}
+use Rattle.pm_mapfile.specs.Answers.{IsLinesAnswer, AnswersText, AnswersFile, IsAnswerOfForm, IsMapTextAnswer, IsMapFileAnswer, IsSampleFileAnswer}
 use Rattle.pm_mapfile.proofs.FileLemmas.{cut_after}
 use Rattle.pm_mapfile.proofs.SampleLemmas.{sample_broken}
 use Rattle.pm_mapfile.proofs.LinesLemmas.{rotation_of, rotation_is_whole}
@@ -88,28 +89,25 @@ pub sample_refused : (bytes : List ℕ) (limit : ℕ) (refusal : TextRefusal) �
 sample_refused bytes limit MemoryOfText b = b
 sample_refused bytes limit (LineOfText line) b = sample_broken bytes line b
 
+-- something was read, and the lines break a rule
+pub map_refused : {Read : Type 0} (form : List ℕ → Type 0) (reads : Read → Result RootedMap MapRefusal → Type 0) (bytes : List ℕ) (read : Read) (refusal : MapRefusal) → reads read (Err refusal)
+    → IsAnswerOfForm form reads bytes (Err (refusal_of_map refusal))
+map_refused form reads bytes read MemoryOfMap a = tt
+map_refused form reads bytes read (TooMany edges) a = ((read, a), λ e. cc)
+map_refused form reads bytes read (NotPermutation dart) a = ((read, a), λ e. cc)
+map_refused form reads bytes read (NotConnected dart) a = ((read, a), λ e. cc)
+map_refused form reads bytes read (Genus euler) a = ((read, a), λ e. cc)
+
 pub text_map_refused : (bytes : List ℕ) (limit after : ℕ) (refusal : MapRefusal) → AnswersText bytes limit after (Err refusal) → IsMapTextAnswer bytes limit (Err (refusal_of_map refusal))
-text_map_refused bytes limit after MemoryOfMap a = tt
-text_map_refused bytes limit after (TooMany edges) a = ((after, a), λ e. cc)
-text_map_refused bytes limit after (NotPermutation dart) a = ((after, a), λ e. cc)
-text_map_refused bytes limit after (NotConnected dart) a = ((after, a), λ e. cc)
-text_map_refused bytes limit after (Genus euler) a = ((after, a), λ e. cc)
+text_map_refused bytes limit = map_refused BeginsWithMapText (λ after. AnswersText bytes limit after) bytes
 
-pub file_map_refused : (bytes : List ℕ) (limit : ℕ) (residue : Option (List ℕ)) (refusal : MapRefusal) → AnswersFile bytes limit residue (Err refusal)
+pub file_map_refused : (bytes : List ℕ) (limit : ℕ) (residue : Option NumList) (refusal : MapRefusal) → AnswersFile bytes limit residue (Err refusal)
     → IsMapFileAnswer bytes limit (Err (refusal_of_map refusal))
-file_map_refused bytes limit residue MemoryOfMap a = tt
-file_map_refused bytes limit residue (TooMany edges) a = ((residue, a), λ e. cc)
-file_map_refused bytes limit residue (NotPermutation dart) a = ((residue, a), λ e. cc)
-file_map_refused bytes limit residue (NotConnected dart) a = ((residue, a), λ e. cc)
-file_map_refused bytes limit residue (Genus euler) a = ((residue, a), λ e. cc)
+file_map_refused bytes limit = map_refused IsMapFile (λ residue. AnswersFile bytes limit residue) bytes
 
-pub sample_map_refused : (bytes : List ℕ) (limit : ℕ) (residue : List ℕ) (refusal : MapRefusal) → AnswersFile bytes limit (Some residue) (Err refusal)
+pub sample_map_refused : (bytes : List ℕ) (limit : ℕ) (residue : NumList) (refusal : MapRefusal) → AnswersFile bytes limit (Some residue) (Err refusal)
     → IsSampleFileAnswer bytes limit (Err (refusal_of_map refusal))
-sample_map_refused bytes limit residue MemoryOfMap a = tt
-sample_map_refused bytes limit residue (TooMany edges) a = ((residue, a), λ e. cc)
-sample_map_refused bytes limit residue (NotPermutation dart) a = ((residue, a), λ e. cc)
-sample_map_refused bytes limit residue (NotConnected dart) a = ((residue, a), λ e. cc)
-sample_map_refused bytes limit residue (Genus euler) a = ((residue, a), λ e. cc)
+sample_map_refused bytes limit = map_refused IsSampleFile (λ residue. AnswersFile bytes limit (Some residue)) bytes
 
 -- what may follow a map text
 residue_of : (bytes : List ℕ) (residue : Option NumList) → IsResidueAnswer bytes (Ok residue) → IsResidue residue bytes

@@ -57,45 +57,39 @@ pub record AnswersFile (bytes : List ℕ) (limit : ℕ) (residue : Option (List 
   pub spelled : bytes ≡ lines_text lines ++ rest
   pub answered : IsLinesAnswer lines limit answer
 
--- The answer to bytes that should begin with a map text: the map and the place after the text; or the line at which they
--- break that form; or the rule that the lines break. Want of memory may come at any, and stands in no other refusal.
+-- The answer to bytes that should have a form, where `reads` says what is read of them and how the lines of the map are
+-- answered: the map and what is read beside it; or the line at which the bytes break the form; or the rule that the lines
+-- break. Want of memory may come at any, and stands in no other refusal.
+abbrev pub IsAnswerOfForm : {Read : Type 0} → (List ℕ → Type 0) → (Read → Result RootedMap MapRefusal → Type 0) → List ℕ
+    → Result (RootedMap × Read) FileRefusal → Type 0
+IsAnswerOfForm form reads bytes (Ok read) = reads read.1 (Ok read.0)
+IsAnswerOfForm form reads bytes (Err (Text line)) = IsBrokenLine form bytes line
+IsAnswerOfForm {Read = Read} form reads bytes (Err (Map refusal)) = ((read : Read) × reads read (Err refusal)) × (refusal ≡ MemoryOfMap → ⊥)
+IsAnswerOfForm form reads bytes (Err Memory) = ⊤
+
+-- The answer to bytes that should begin with a map text: beside the map the place after the text.
 abbrev pub IsMapTextAnswer : List ℕ → ℕ → Result (RootedMap × ℕ) FileRefusal → Type 0
-IsMapTextAnswer bytes limit (Ok read) = AnswersText bytes limit read.1 (Ok read.0)
-IsMapTextAnswer bytes limit (Err (Text line)) = IsBrokenLine BeginsWithMapText bytes line
-IsMapTextAnswer bytes limit (Err (Map refusal)) = ((after : ℕ) × AnswersText bytes limit after (Err refusal)) × (refusal ≡ MemoryOfMap → ⊥)
-IsMapTextAnswer bytes limit (Err Memory) = ⊤
+IsMapTextAnswer bytes limit = IsAnswerOfForm BeginsWithMapText (λ after. AnswersText bytes limit after) bytes
 
--- The answer to bytes that should be a map file: the map and the numbers of the residue line, where there is one; or the
--- line at which they break that form; or the rule that the lines of the map break.
+-- The answer to bytes that should be a map file: beside the map the numbers of the residue line, where there is one.
 abbrev pub IsMapFileAnswer : List ℕ → ℕ → Result (RootedMap × Option NumList) FileRefusal → Type 0
-IsMapFileAnswer bytes limit (Ok read) = AnswersFile bytes limit read.1 (Ok read.0)
-IsMapFileAnswer bytes limit (Err (Text line)) = IsBrokenLine IsMapFile bytes line
-IsMapFileAnswer bytes limit (Err (Map refusal)) =
-    ((residue : Option (List ℕ)) × AnswersFile bytes limit residue (Err refusal)) × (refusal ≡ MemoryOfMap → ⊥)
-IsMapFileAnswer bytes limit (Err Memory) = ⊤
+IsMapFileAnswer bytes limit = IsAnswerOfForm IsMapFile (λ residue. AnswersFile bytes limit residue) bytes
 
--- The answer to bytes that should be a sample file: the map and the numbers of the residue line; or the line at which they
--- break that form; or the rule that the lines of the map break.
+-- The answer to bytes that should be a sample file: beside the map the numbers of the residue line.
 abbrev pub IsSampleFileAnswer : List ℕ → ℕ → Result (RootedMap × NumList) FileRefusal → Type 0
-IsSampleFileAnswer bytes limit (Ok read) = AnswersFile bytes limit (Some read.1) (Ok read.0)
-IsSampleFileAnswer bytes limit (Err (Text line)) = IsBrokenLine IsSampleFile bytes line
-IsSampleFileAnswer bytes limit (Err (Map refusal)) =
-    ((residue : List ℕ) × AnswersFile bytes limit (Some residue) (Err refusal)) × (refusal ≡ MemoryOfMap → ⊥)
-IsSampleFileAnswer bytes limit (Err Memory) = ⊤
+IsSampleFileAnswer bytes limit = IsAnswerOfForm IsSampleFile (λ residue. AnswersFile bytes limit (Some residue)) bytes
 
--- Bytes and a limit have one answer, but for want of memory: so each refusal comes exactly where its rule is the first
--- that is broken.
-abbrev pub HasOneMapTextAnswer : Type 0
-HasOneMapTextAnswer =
-    (bytes : List ℕ) (limit : ℕ) (first second : Result (RootedMap × ℕ) FileRefusal) → IsMapTextAnswer bytes limit first → IsMapTextAnswer bytes limit second
+-- There is one answer, but for want of memory: so each refusal comes exactly where its rule is the first that is broken.
+abbrev pub HasOneAnswer : {Read : Type 0} → (Result (RootedMap × Read) FileRefusal → Type 0) → Type 0
+HasOneAnswer {Read = Read} answers =
+    (first second : Result (RootedMap × Read) FileRefusal) → answers first → answers second
     → (first ≡ Err Memory → ⊥) → (second ≡ Err Memory → ⊥) → first ≡ second
+
+abbrev pub HasOneMapTextAnswer : Type 0
+HasOneMapTextAnswer = (bytes : List ℕ) (limit : ℕ) → HasOneAnswer (IsMapTextAnswer bytes limit)
 
 abbrev pub HasOneMapFileAnswer : Type 0
-HasOneMapFileAnswer =
-    (bytes : List ℕ) (limit : ℕ) (first second : Result (RootedMap × Option NumList) FileRefusal) → IsMapFileAnswer bytes limit first → IsMapFileAnswer bytes limit second
-    → (first ≡ Err Memory → ⊥) → (second ≡ Err Memory → ⊥) → first ≡ second
+HasOneMapFileAnswer = (bytes : List ℕ) (limit : ℕ) → HasOneAnswer (IsMapFileAnswer bytes limit)
 
 abbrev pub HasOneSampleFileAnswer : Type 0
-HasOneSampleFileAnswer =
-    (bytes : List ℕ) (limit : ℕ) (first second : Result (RootedMap × NumList) FileRefusal) → IsSampleFileAnswer bytes limit first → IsSampleFileAnswer bytes limit second
-    → (first ≡ Err Memory → ⊥) → (second ≡ Err Memory → ⊥) → first ≡ second
+HasOneSampleFileAnswer = (bytes : List ℕ) (limit : ℕ) → HasOneAnswer (IsSampleFileAnswer bytes limit)

@@ -1,9 +1,6 @@
 pub mod MapText
 pub mod MapFile
-pub mod ReadText
-pub mod ReadFile
 pub mod Vertices
-pub mod Refusals
-pub mod Rotation
 pub mod Answers
 pub mod ReadAgain
+pub mod steps

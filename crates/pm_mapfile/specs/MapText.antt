@@ -41,16 +41,3 @@ pub record AppendsMapText (m : RotationSystem) (old new : List ℕ) : Type 0 whe
   pub bytes : List ℕ
   pub is_map_text : IsMapText m bytes
   pub appended : new ≡ old ++ bytes
-
--- the lines of all vertices are added
-pub record AppendsLines (s : Structure) (old new : List ℕ) : Type 0 where
-  pub vertices : List (List ℕ)
-  pub is_list : IsMeetingList s vertices
-  pub appended : new ≡ old ++ vertex_lines vertices
-
--- the line of this vertex is added, and so many are its darts
-pub record AppendsLine (s : Structure) (start count : ℕ) (old new : List ℕ) : Type 0 where
-  pub vertex : List ℕ
-  pub is_vertex : IsVertexFrom s start vertex
-  pub size : count ≡ length vertex
-  pub appended : new ≡ old ++ vertex_line vertex

@@ -2,7 +2,7 @@
 ghost use Rattle.std.specs.Prelude.{◌≡◌, ◌≤◌, ◌<◌, ◌^◌, length};
 ghost use Rattle.pm_limits.specs.declared.TheConstants.{MAX_EDGES};
 ghost use Rattle.pm_mapfile.specs.Answers.{IsMapTextAnswer, IsMapFileAnswer, IsSampleFileAnswer};
-ghost use Rattle.pm_mapfile.specs.Rotation.{TellsLines, IsTextAnswer, vertices_of_lines};
+ghost use Rattle.pm_mapfile.specs.steps.Rotation.{TellsLines, IsTextAnswer, vertices_of_lines};
 
 use crate::file::{ReadFile, read_map_lines};
 use crate::read::{ReadText, read_map_text};

@@ -1,7 +1,7 @@
 //! Map files: the text of a map, and a residue line after it.
 ghost use Rattle.std.specs.Prelude.{◌≡◌, ◌<◌, ◌^◌, List, length};
-ghost use Rattle.pm_mapfile.specs.ReadText.{IsResidueAnswer};
-ghost use Rattle.pm_mapfile.specs.ReadFile.{IsReadFileAnswer};
+ghost use Rattle.pm_mapfile.specs.steps.ReadText.{IsResidueAnswer};
+ghost use Rattle.pm_mapfile.specs.steps.ReadFile.{IsReadFileAnswer};
 
 use crate::numbers::read_numbers;
 use crate::read::{ReadText, TextRefusal, next_ended, read_map_text};

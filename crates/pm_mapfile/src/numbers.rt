@@ -1,7 +1,7 @@
 //! Lines of a tag and numbers.
 ghost use Rattle.std.specs.Prelude.{ℕ, List, IsTrue, IfOk, MatchOption};
 ghost use Rattle.pm_lists.specs.ListLine.{is_tag};
-ghost use Rattle.pm_mapfile.specs.MapFile.{IsNumbersLine};
+ghost use Rattle.pm_mapfile.specs.steps.Lines.{IsNumbersLine};
 
 use pm_lists::{ListTextRefusal, NumList, read_list};
 use std::alloc::{AllocError, Global};

@@ -3,8 +3,8 @@ ghost use Rattle.std.specs.Prelude.{◌≡◌, ◌<◌, ◌^◌, ◌↔◌, ℕ,
 ghost use Rattle.std.specs.Bool.{MatchBool};
 ghost use Rattle.pm_text.specs.Broken.{HasNoNewline};
 ghost use Rattle.pm_text.specs.Reading.{IsNextLine};
-ghost use Rattle.pm_mapfile.specs.MapFile.{IsFirstText, AppendsVertex, HasNoRoomFor};
-ghost use Rattle.pm_mapfile.specs.ReadText.{IsReadTextAnswer};
+ghost use Rattle.pm_mapfile.specs.steps.Lines.{IsFirstText, AppendsVertex, HasNoRoomFor};
+ghost use Rattle.pm_mapfile.specs.steps.ReadText.{IsReadTextAnswer};
 
 use crate::numbers::read_numbers;
 use pm_text::{Line, Lines};

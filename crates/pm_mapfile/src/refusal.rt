@@ -1,6 +1,6 @@
 //! Why bytes are no map file, or not that of a map.
 ghost use Rattle.std.specs.Prelude.{◌≡◌};
-ghost use Rattle.pm_mapfile.specs.Refusals.{refusal_of_text, refusal_of_map};
+ghost use Rattle.pm_mapfile.specs.steps.Refusals.{refusal_of_text, refusal_of_map};
 
 use crate::read::TextRefusal;
 use pm_map::MapRefusal;

@@ -1,6 +1,6 @@
 //! The rotation that the lines of a map text tell.
 ghost use Rattle.std.specs.Prelude.{◌≡◌, ◌<◌, ◌≤◌, ◌^◌, ℕ, All, length};
-ghost use Rattle.pm_mapfile.specs.Rotation.{turned_lines, AreSizes, AreFollowers, IsToldAnswer, IsRotationAnswer};
+ghost use Rattle.pm_mapfile.specs.steps.Rotation.{turned_lines, AreSizes, AreFollowers, IsToldAnswer, IsRotationAnswer};
 
 use pm_map::MapRefusal;
 use std::alloc::Global;

@@ -2,7 +2,7 @@
 use Rattle.std.proofs.Common.{◌≡◌, ℕ, suc, ◌+◌, ◌-◌, ◌*◌, ◌/◌, ◌<◌, ◌≤◌, ◌≢◌, max, List, [], ◌∷◌, length, slice_index, slice_set, refl, sym, subst, ap, ◌∙◌, inl, inr, arith, get_or-set_same, get_or-set_other}
 use Rattle.std.proofs.lemmas.Bool.{cases_lt}
 use Rattle.pm_remy.specs.Tree.{Tree, leaf, fork, least, name}
-use Rattle.pm_remy.specs.Noted.{root_upto, fork_choice, AreNoted}
+use Rattle.pm_remy.specs.steps.Noted.{root_upto, fork_choice, AreNoted}
 use Rattle.pm_remy.proofs.Counts.{hit_same, label_times, name_times, least-stands, IsApart, apart-left, apart-right, names-apart}
 use Rattle.pm_remy.proofs.Linking.{sides-apart}
 use Rattle.pm_remy.proofs.Gathering.{label_times_all, AreApart}

@@ -2,7 +2,8 @@
 use Rattle.std.proofs.Common.{◌≡◌, ℕ, zero, suc, ◌/◌, ◌%◌, ◌<◌, ◌≤◌, false, List, [], ◌∷◌, ◌++◌, length, take, slice_index, refl, sym, subst, ap, ap₂, ◌∙◌, inl, inr, arith, take-suc, take_all}
 use Rattle.std.proofs.lemmas.Bool.{cases_eq, cases_order, cases_Bool}
 use Rattle.pm_remy.specs.Tree.{Tree, leaf}
-use Rattle.pm_remy.specs.Growth.{grafted, grown_by, grown, IsChoices, is_leaf, pruned, last_choice, ungrown}
+use Rattle.pm_remy.specs.Growth.{grafted, grown_by, grown, IsChoices}
+use Rattle.pm_remy.specs.steps.Ungrown.{is_leaf, pruned, last_choice, ungrown}
 use Rattle.pm_remy.proofs.Counts.{hit_other, hit_same, label_times, name_times, IsCounted, names-once, below_counted, apart_counted}
 use Rattle.pm_remy.proofs.Grafts.{grafted-labels}
 use Rattle.pm_remy.proofs.Prunes.{leaf_from_is_leaf, pruned-grafted, choice-grafted, pruned-labels, Regrafts, regrafts}

@@ -1,7 +1,8 @@
 -- Each labelled tree is grown by one list of choices, and each shape with labels is that of one tree.
 use Rattle.std.proofs.Common.{◌≡◌, ℕ, suc, List, length, sym}
 use Rattle.pm_remy.specs.Tree.{shape_of, leaves}
-use Rattle.pm_remy.specs.Growth.{grown, IsChoices, ungrown}
+use Rattle.pm_remy.specs.Growth.{grown, IsChoices}
+use Rattle.pm_remy.specs.steps.Ungrown.{ungrown}
 use Rattle.pm_remy.specs.Words.{forks_in, tree_of}
 use Rattle.pm_remy.specs.Laws.{GrowthIsOneToOne, WordsAreOneToOne}
 use Rattle.pm_remy.proofs.Grown.{counted-grown}

@@ -3,7 +3,7 @@ use Rattle.std.proofs.Common.{◌≡◌, ℕ, suc, ◌-◌, ◌*◌, ◌<◌, �
 use Rattle.std.proofs.lemmas.Bool.{cases_lt, cases_eq}
 use Rattle.pm_remy.specs.Tree.{Tree, leaf, fork, least, name}
 use Rattle.pm_remy.specs.Growth.{beside, grafted}
-use Rattle.pm_remy.specs.Linked.{IsHung, IsLinked, IsRooted}
+use Rattle.pm_remy.specs.steps.Linked.{IsHung, IsLinked, IsRooted}
 use Rattle.pm_remy.proofs.Counts.{hit_other, hit_same, label_times, name_times, least-stands, IsApart, IsBelow, apart-left, apart-right, below-left, below-right, least-below, name-below, names-apart}
 use Rattle.pm_remy.proofs.Grafts.{beside_cases, beside-name, grafted-here, grafted-leaf, grafted-fork, grafted-name, grafted-same}
 

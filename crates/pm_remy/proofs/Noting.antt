@@ -3,8 +3,9 @@ use Rattle.std.proofs.Common.{◌≡◌, ℕ, zero, suc, ◌+◌, ◌-◌, ◌*�
 use Rattle.std.proofs.lemmas.Bool.{cases_lt, cases_eq, cond-true, cond-false, lt-ltb, le-ltb}
 use Rattle.pm_perm.specs.Permutation.{IsPermutationList}
 use Rattle.pm_remy.specs.Tree.{Tree, leaf, fork, least, name, labels_of, leaves}
-use Rattle.pm_remy.specs.Growth.{beside, grafted, grown_by, IsChoices, IsGrowth, ungrown}
-use Rattle.pm_remy.specs.Noted.{root_upto, fork_choice, AreNoted}
+use Rattle.pm_remy.specs.Growth.{beside, grafted, grown_by, IsChoices, IsGrowth}
+use Rattle.pm_remy.specs.steps.Ungrown.{ungrown}
+use Rattle.pm_remy.specs.steps.Noted.{root_upto, fork_choice, AreNoted}
 use Rattle.pm_remy.proofs.Counts.{hit_other, name_times, IsBelow, below-left, below-right, below_counted, least-below}
 use Rattle.pm_remy.proofs.Grafts.{beside_cases, grafted-here, grafted-leaf, grafted-fork, grafted-least}
 use Rattle.pm_remy.proofs.Grown.{grown_by-suc, choice-stands, counted-grown_by}

@@ -3,7 +3,7 @@ use Rattle.std.proofs.Common.{◌≡◌, ℕ, suc, ◌+◌, ◌-◌, ◌*◌, �
 use Rattle.std.proofs.lemmas.Bool.{cases_lt, cases_eq}
 use Rattle.std.proofs.lemmas.List.{get_or_append_left, get_or_push, length_push, drop-append-le}
 use Rattle.pm_remy.specs.Tree.{Tree, leaf, fork, labels_of, leaves}
-use Rattle.pm_remy.specs.Linked.{IsTied, IsHeld}
+use Rattle.pm_remy.specs.steps.Linked.{IsTied, IsHeld}
 
 -- the number of forks of a tree, and of several
 abbrev pub forks_of : Tree → ℕ

@@ -4,7 +4,7 @@ use Rattle.pm_perm.specs.Permutation.{IsPermutationList}
 use Rattle.pm_perm.specs.Lists.{IsInverseList}
 use Rattle.pm_remy.specs.Tree.{Tree, leaf, fork, name, leaves}
 use Rattle.pm_remy.specs.Growth.{grafted, grown_by}
-use Rattle.pm_remy.specs.Linked.{IsHung, IsLinked, IsTreeIn, ArePlaces, IsTied, IsHeld}
+use Rattle.pm_remy.specs.steps.Linked.{IsHung, IsLinked, IsTreeIn, ArePlaces, IsTied, IsHeld}
 use Rattle.pm_remy.proofs.Counts.{IsApart, apart-left, apart-right, apart_counted, IsBelow, below-left, below-right, below_counted}
 use Rattle.pm_remy.proofs.Linking.{tree-below, sides-apart, fork-below}
 use Rattle.pm_remy.proofs.Grown.{grown_by-zero, grown_by-suc}

@@ -3,7 +3,8 @@ use Rattle.std.proofs.Common.{◌≡◌, ℕ, ◌+◌, ◌*◌, ◌<◌, ◌≤�
 use Rattle.std.proofs.lemmas.Bool.{cases_eq, cases_Bool, cond-true, cond-false, false≢true}
 use Rattle.std.proofs.lemmas.Bool.Decides.{nat_tests}
 use Rattle.pm_remy.specs.Tree.{Tree, leaf, fork, name}
-use Rattle.pm_remy.specs.Growth.{beside, grafted, is_leaf, pruned, last_choice}
+use Rattle.pm_remy.specs.Growth.{beside, grafted}
+use Rattle.pm_remy.specs.steps.Ungrown.{is_leaf, pruned, last_choice}
 use Rattle.pm_remy.proofs.Counts.{hit, hit_tells, hit_other, hit_same, label_times, name_times, IsApart, IsBelow, apart-left, apart-right, below-left, below-right, root-stands, names-apart}
 use Rattle.pm_remy.proofs.Grafts.{beside_cases, grafted-here, grafted-leaf, grafted-fork, grafted-same}
 

@@ -7,7 +7,7 @@ use Rattle.pm_perm.specs.Permutation.{IsPermutationList}
 use Rattle.pm_remy.specs.Tree.{Tree, leaf, fork, least, name}
 use Rattle.pm_remy.specs.Words.{forest, joined, first_of, forks_in, leaves_in, IsShape, IsWritten, tree_of}
 use Rattle.pm_remy.specs.Growth.{IsChoices}
-use Rattle.pm_remy.specs.Noted.{fork_choice, AreNoted, IsNotedTree}
+use Rattle.pm_remy.specs.steps.Noted.{fork_choice, AreNoted, IsNotedTree}
 use Rattle.pm_remy.specs.declared.ungrowing.Subtree.{Subtree}
 use Rattle.pm_remy.proofs.Counts.{IsApart, IsBelow, name-below, least-below}
 use Rattle.pm_remy.proofs.Linking.{sides-apart}

@@ -2,7 +2,7 @@
 use Rattle.std.proofs.Common.{◌≡◌, ℕ, suc, ◌-◌, ◌*◌, ◌<◌, ◌≢◌, ◌⊎◌, List, length, set, slice_index, slice_set, refl, subst, ◌∙◌, inl, inr, arith, length-set, get_or-set_same, get_or-set_other}
 use Rattle.pm_remy.specs.Tree.{Tree, leaves}
 use Rattle.pm_remy.specs.Growth.{grafted}
-use Rattle.pm_remy.specs.Linked.{IsHung, IsTreeIn}
+use Rattle.pm_remy.specs.steps.Linked.{IsHung, IsTreeIn}
 use Rattle.pm_remy.proofs.Counts.{IsCounted, apart_counted, below_counted, names-once}
 use Rattle.pm_remy.proofs.Grown.{counted-grafted}
 use Rattle.pm_remy.proofs.Linking.{IsStep, IsBranched, IsPlaced, rooted-after, placed}

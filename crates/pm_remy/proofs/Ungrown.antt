@@ -4,7 +4,8 @@ use Rattle.std.proofs.lemmas.Bool.{cases_lt}
 use Rattle.std.proofs.lemmas.List.{get_or_append_left, get_or_push, length_push}
 use Rattle.pm_perm.specs.Permutation.{IsPermutationList}
 use Rattle.pm_remy.specs.Tree.{Tree, leaf, fork, least, labels_of, leaves, names}
-use Rattle.pm_remy.specs.Growth.{grafted, grown_by, grown, IsChoices, IsGrowth, pruned, last_choice, ungrown}
+use Rattle.pm_remy.specs.Growth.{grafted, grown_by, grown, IsChoices, IsGrowth}
+use Rattle.pm_remy.specs.steps.Ungrown.{pruned, last_choice, ungrown}
 use Rattle.pm_remy.proofs.Counts.{label_times, least-stands, IsCounted, least-below, below_counted, below-left, below-right, names-none}
 use Rattle.pm_remy.proofs.Grown.{counted-grown, grown_by-zero, grown_by-suc, counted-pruned, counted-regrafts, grown-injective}
 use Rattle.pm_remy.proofs.Once.{counted-labels, counted-leaves, labels-counted, length-names, names-counted}

@@ -2,7 +2,7 @@
 use Rattle.std.proofs.Common.{◌≡◌, ℕ, suc, ◌<◌, ◌≤◌, List, length, slice_index, arith}
 use Rattle.pm_remy.specs.Tree.{leaf, leaves}
 use Rattle.pm_remy.specs.Growth.{grown_by, IsChoices}
-use Rattle.pm_remy.specs.Linked.{IsTreeIn}
+use Rattle.pm_remy.specs.steps.Linked.{IsTreeIn}
 use Rattle.pm_remy.proofs.Grown.{counted-leaf, counted-grown_by}
 use Rattle.pm_remy.proofs.Once.{counted-leaves, labels-counted}
 

@@ -4,7 +4,7 @@ use Rattle.std.proofs.lemmas.List.{length_push, same_from_push}
 use Rattle.pm_limits.specs.declared.TheConstants.{MAX_EDGES}
 use Rattle.pm_remy.specs.Tree.{Tree, leaf, fork, labels_of, shape_of, leaves}
 use Rattle.pm_remy.specs.Words.{tree_of, tree_of-words, IsLabelTree, IsWritten}
-use Rattle.pm_remy.specs.Linked.{IsTied}
+use Rattle.pm_remy.specs.steps.Linked.{IsTied}
 use Rattle.pm_remy.proofs.Reading.{shapes_of, labels_of_all, written-tree}
 
 -- the numbers, the first one last

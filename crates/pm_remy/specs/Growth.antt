@@ -29,31 +29,6 @@ grown choices = grown_by choices (length choices)
 abbrev pub IsChoices : List ℕ → Type 0
 IsChoices choices = (k : ℕ) → k < length choices → slice_index choices k < 2 * (2 * k + 1)
 
--- whether a tree is the leaf with that label
-abbrev pub is_leaf : ℕ → Tree → Bool
-is_leaf label (leaf m) = m == label
-is_leaf label (fork left right) = false
-
--- the tree without the leaf of that label: the other side takes the place of its fork
-unfoldable pub pruned : ℕ → Tree → Tree
-pruned label (leaf m) = leaf m
-pruned label (fork left right) =
-    if is_leaf label left then right
-    else (if is_leaf label right then left else fork (pruned label left) (pruned label right))
-
--- the choice that puts the leaf of that label where it stands: twice the name of the other side of its fork, and one
--- more where the leaf stands on the left
-unfoldable pub last_choice : ℕ → Tree → ℕ
-last_choice label (leaf m) = 0
-last_choice label (fork left right) =
-    if is_leaf label left then 2 * name right + 1
-    else (if is_leaf label right then 2 * name left else last_choice label left + last_choice label right)
-
--- so many choices, read from a tree by taking its greatest label away, again and again
-unfoldable pub ungrown : ℕ → Tree → List ℕ
-ungrown zero t = []
-ungrown (suc k) t = ungrown k (pruned (suc k) t) ++ last_choice (suc k) t ∷ []
-
 -- the one list of choices that grows the tree
 pub record IsGrowth (choices : List ℕ) (t : Tree) : Type 0 where
   pub valid : IsChoices choices

@@ -1,6 +1,6 @@
 ghost use Rattle.std.specs.Prelude.{◌≡◌, ◌+◌, ◌*◌, ◌≤◌, length, IfOk};
 ghost use Rattle.pm_remy.specs.Growth.{grown, IsChoices, IsGrowth};
-ghost use Rattle.pm_remy.specs.Linked.{IsHeld, ArePlaces};
+ghost use Rattle.pm_remy.specs.steps.Linked.{IsHeld, ArePlaces};
 
 use crate::label_tree::LabelTree;
 use crate::levels::by_level;

@@ -1,5 +1,5 @@
 ghost use Rattle.std.specs.Prelude.{◌≡◌, ◌≢◌, ℕ, suc, ◌+◌, ◌*◌, ◌%◌, ◌<◌, ◌≤◌, ◌^◌, [], ◌∷◌, ◌++◌, length, IfOk};
-ghost use Rattle.pm_remy.specs.Linked.{IsHeld};
+ghost use Rattle.pm_remy.specs.steps.Linked.{IsHeld};
 ghost use Rattle.pm_remy.specs.Tree.{Tree};
 
 use pm_limits::MAX_EDGES;

@@ -1,6 +1,6 @@
 ghost use Rattle.std.specs.Prelude.{◌≡◌, ℕ, suc, ◌+◌, ◌-◌, ◌*◌, ◌<◌, ◌≤◌, ◌^◌, length, slice_set, IfOk};
 ghost use Rattle.pm_remy.specs.Growth.{grafted};
-ghost use Rattle.pm_remy.specs.Linked.{IsHeld, ArePlaces, HavePlaces};
+ghost use Rattle.pm_remy.specs.steps.Linked.{IsHeld, ArePlaces, HavePlaces};
 ghost use Rattle.pm_remy.specs.Tree.{Tree, leaves};
 
 use crate::label_tree::LabelTree;

@@ -1,6 +1,6 @@
 ghost use Rattle.std.specs.Prelude.{◌≡◌, ℕ, suc, ◌-◌, ◌*◌, ◌<◌, ◌≤◌, ◌^◌, min, max, length, slice_set, OnOk};
 ghost use Rattle.pm_remy.specs.Growth.{IsChoices, IsGrowth};
-ghost use Rattle.pm_remy.specs.Noted.{root_upto, fork_choice, IsNotedTree};
+ghost use Rattle.pm_remy.specs.steps.Noted.{root_upto, fork_choice, IsNotedTree};
 ghost use Rattle.pm_remy.specs.Tree.{Tree};
 ghost use Rattle.pm_remy.specs.Words.{IsWritten, tree_of};
 

@@ -1,4 +1,4 @@
-use Rattle.pm_lehmer.specs.Counted.{IsCounted}
+use Rattle.pm_lehmer.specs.steps.Counted.{IsCounted}
 use Rattle.pm_lehmer.proofs.Ranked.{first_below}
 use Rattle.pm_lehmer.proofs.arranging.put_all.Given as goal
 

@@ -1,5 +1,5 @@
 use Rattle.std.proofs.Common.{◌≡◌, length, ap, ◌∙◌, arith}
-use Rattle.pm_mapfile.specs.Rotation.{vertices_of_lines}
+use Rattle.pm_mapfile.specs.steps.Rotation.{vertices_of_lines}
 use Rattle.pm_mapfile.proofs.LinesLemmas.{sizes_of_text, text_below}
 use Rattle.pm_mapfile.proofs.LineCycles.{lines_permute, lines_are_vertices, lines_within}
 use Rattle.pm_mapfile.proofs.TextAnswers.{answer_of_rotation}

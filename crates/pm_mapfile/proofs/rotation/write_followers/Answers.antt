@@ -1,6 +1,6 @@
 use Rattle.std.proofs.Common.{◌≡◌, ◌+◌, ◌-◌, ◌<◌, ◌≤◌, Some, length, get_or, set, sym, subst, arith}
 use Rattle.std.proofs.lemmas.List.Elements.{All-get_or}
-use Rattle.pm_mapfile.specs.Rotation.{turned_lines, AreFollowers}
+use Rattle.pm_mapfile.specs.steps.Rotation.{turned_lines, AreFollowers}
 use Rattle.pm_mapfile.proofs.RotationLemmas.{AreWritingLines, next_fits, followers_more, followed_by_next, followed_by_first, writing_more}
 use Rattle.pm_mapfile.proofs.rotation.write_followers.Goals as goal
 

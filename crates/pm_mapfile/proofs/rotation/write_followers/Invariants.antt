@@ -1,4 +1,4 @@
-use Rattle.pm_mapfile.specs.Rotation.{turned_lines, AreFollowers}
+use Rattle.pm_mapfile.specs.steps.Rotation.{turned_lines, AreFollowers}
 use Rattle.pm_mapfile.proofs.RotationLemmas.{AreWritingLines}
 use Rattle.pm_mapfile.proofs.rotation.write_followers.Given as goal
 

@@ -1,6 +1,6 @@
 use Rattle.std.proofs.Common.{◌≡◌, ◌+◌, ◌/◌, ◌%◌, ℕ, suc, length, slice_index, set, subst, sym, arith, length-set, get_or-set_same}
 use Rattle.pm_remy.specs.Growth.{grafted, grown_by}
-use Rattle.pm_remy.specs.Linked.{ArePlaces}
+use Rattle.pm_remy.specs.steps.Linked.{ArePlaces}
 use Rattle.pm_remy.proofs.Placing.{start-placed, placed-more}
 use Rattle.pm_remy.proofs.Unwinding.{leaves-grown_by}
 use Rattle.pm_remy.proofs.growth.add_leaves.Goals as goal

@@ -3,7 +3,7 @@ use Rattle.std.proofs.lemmas.List.{take_at}
 use Rattle.pm_perm.specs.Lists.{IsInverseList}
 use Rattle.pm_remy.specs.Tree.{leaves}
 use Rattle.pm_remy.specs.Growth.{grown, IsChoices}
-use Rattle.pm_remy.specs.Linked.{IsHeld, ArePlaces}
+use Rattle.pm_remy.specs.steps.Linked.{IsHeld, ArePlaces}
 use Rattle.pm_remy.proofs.Placing.{places-permuted, inverse-in, held-in}
 use Rattle.pm_remy.proofs.Unwinding.{leaves-grown_by}
 use Rattle.pm_remy.proofs.growth.grown_links.Goals as goal

@@ -1,6 +1,6 @@
 use Rattle.std.proofs.Common.{◌≡◌, ◌+◌, ◌-◌, ◌*◌, ◌<◌, ◌≤◌, ℕ, zero, suc, List, [], ◌∷◌, ◌++◌, length, get_or, slice_index, refl, subst, sym, ap, ◌∙◌, arith}
 use Rattle.pm_remy.specs.Tree.{Tree}
-use Rattle.pm_remy.specs.Linked.{IsHeld}
+use Rattle.pm_remy.specs.steps.Linked.{IsHeld}
 use Rattle.pm_remy.proofs.Numbering.{forks_of, forks-leaves, IsNumbered, AreMet, AreQueued, met-start, met-step, next-fork, waiting-first, waiting-step, waiting-start, queued-few, held-leveled}
 use Rattle.pm_remy.proofs.Waiting.{length-shape}
 use Rattle.pm_remy.proofs.levels.by_level.Goals as goal

@@ -1,6 +1,6 @@
 use Rattle.std.proofs.Common.{◌-◌, length}
 use Rattle.pm_remy.specs.Tree.{Tree}
-use Rattle.pm_remy.specs.Linked.{IsHeld}
+use Rattle.pm_remy.specs.steps.Linked.{IsHeld}
 use Rattle.pm_remy.proofs.Numbering.{forks_of, AreMet, AreQueued}
 use Rattle.pm_remy.proofs.levels.by_level.Given as goal
 

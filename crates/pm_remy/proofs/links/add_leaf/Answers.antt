@@ -1,6 +1,6 @@
 use Rattle.std.proofs.Common.{◌-◌, ◌*◌, ℕ, List, slice_index, subst, sym}
 use Rattle.pm_remy.specs.Growth.{grafted}
-use Rattle.pm_remy.specs.Linked.{ArePlaces}
+use Rattle.pm_remy.specs.steps.Linked.{ArePlaces}
 use Rattle.pm_remy.proofs.Placing.{placed-left, placed-right}
 use Rattle.pm_remy.proofs.Stepping.{places_grown}
 use Rattle.pm_remy.proofs.links.add_leaf.Goals as goal

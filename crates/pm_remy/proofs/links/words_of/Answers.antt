@@ -2,7 +2,7 @@ use Rattle.std.proofs.Common.{◌≡◌, ◌+◌, ◌-◌, ◌/◌, ◌%◌, ◌
 use Rattle.std.proofs.lemmas.List.{nil_from_length}
 use Rattle.pm_remy.specs.Tree.{Tree}
 use Rattle.pm_remy.specs.Words.{IsLabelTree}
-use Rattle.pm_remy.specs.Linked.{IsHeld}
+use Rattle.pm_remy.specs.steps.Linked.{IsHeld}
 use Rattle.pm_remy.proofs.Waiting.{length-shape, IsWalked, IsAllMet, ahead-start, ahead-short, walked-leaf, walked-fork, fork-low, all-met, tree-met, written-met}
 use Rattle.pm_remy.proofs.links.words_of.Goals as goal
 

@@ -1,6 +1,6 @@
 use Rattle.std.proofs.Common.{◌-◌, suc, length, slice_index, vec_len}
 use Rattle.pm_remy.specs.Tree.{Tree}
-use Rattle.pm_remy.specs.Linked.{IsHeld}
+use Rattle.pm_remy.specs.steps.Linked.{IsHeld}
 use Rattle.pm_remy.proofs.Waiting.{IsWalked}
 use Rattle.pm_remy.proofs.links.words_of.Given as goal
 

@@ -1,6 +1,6 @@
 use Rattle.std.proofs.Common.{◌≡◌, ◌+◌, ◌-◌, ◌*◌, ◌<◌, ℕ, suc, max, slice_set, sym, ap, ap₂, ◌∙◌, arith}
 use Rattle.pm_remy.specs.Tree.{least}
-use Rattle.pm_remy.specs.Noted.{root_upto, fork_choice}
+use Rattle.pm_remy.specs.steps.Noted.{root_upto, fork_choice}
 use Rattle.pm_remy.proofs.Noting.{choice-left, choice-right}
 use Rattle.pm_remy.proofs.ungrowing.note_fork.Goals as goal
 

@@ -1,5 +1,5 @@
 use Rattle.std.proofs.Common.{◌/◌, ◌*◌, ◌<◌, slice_index, arith}
-use Rattle.pm_remy.specs.Noted.{root_upto}
+use Rattle.pm_remy.specs.steps.Noted.{root_upto}
 use Rattle.pm_remy.proofs.Descent.{met-step, met-odd, met-end}
 use Rattle.pm_remy.proofs.ungrowing.root_before.Goals as goal
 

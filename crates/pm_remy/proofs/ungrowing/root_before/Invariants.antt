@@ -1,6 +1,6 @@
 use Rattle.std.proofs.Common.{◌≤◌, slice_index}
 use Rattle.pm_remy.specs.Tree.{Tree}
-use Rattle.pm_remy.specs.Noted.{root_upto, IsNotedTree}
+use Rattle.pm_remy.specs.steps.Noted.{root_upto, IsNotedTree}
 use Rattle.pm_remy.proofs.Descent.{IsMet}
 use Rattle.pm_remy.proofs.ungrowing.root_before.Given as goal
 

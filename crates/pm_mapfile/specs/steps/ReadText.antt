@@ -5,7 +5,8 @@ use Rattle.pm_lists.specs.declared.num_list.NumList.{NumList}
 use Rattle.pm_mapfile.specs.declared.read.ReadText.{ReadText}
 use Rattle.pm_mapfile.specs.declared.read.TextRefusal.{TextRefusal}
 use Rattle.pm_mapfile.specs.declared.read.TextRefusal.TheVariants.{Memory, Text}
-use Rattle.pm_mapfile.specs.MapFile.{IsReadMap, BeginsWithMapText, IsResidue, IsAfterMap}
+use Rattle.pm_mapfile.specs.MapFile.{BeginsWithMapText, IsResidue, IsAfterMap}
+use Rattle.pm_mapfile.specs.steps.Lines.{IsReadMap}
 
 -- what the text says, or the line at which the bytes break the form, or want of memory
 abbrev pub IsReadTextAnswer : List ℕ → Result ReadText TextRefusal → Type 0

@@ -4,8 +4,9 @@ use Rattle.pm_text.specs.Broken.{IsBrokenLine}
 use Rattle.pm_mapfile.specs.declared.read.TextRefusal.{TextRefusal}
 use Rattle.pm_mapfile.specs.declared.read.TextRefusal.TheVariants.{Memory, Text}
 use Rattle.pm_mapfile.specs.declared.file.ReadFile.{ReadFile}
-use Rattle.pm_mapfile.specs.MapFile.{IsReadMap, IsMapFile}
-use Rattle.pm_mapfile.specs.ReadText.{IsResidueAnswer}
+use Rattle.pm_mapfile.specs.MapFile.{IsMapFile}
+use Rattle.pm_mapfile.specs.steps.Lines.{IsReadMap}
+use Rattle.pm_mapfile.specs.steps.ReadText.{IsResidueAnswer}
 
 -- what the text of the map says, and what stands after it; or the line at which the bytes break the form
 abbrev pub IsReadFileAnswer : List ℕ → Result ReadFile TextRefusal → Type 0
