@@ -1,10 +1,13 @@
--- What a structure is carried to is a structure, connected where the first is, and with its Euler number.
-use Rattle.std.proofs.Common.{◌≡◌, ℕ, ◌+◌, ◌/◌, ◌<◌, IsTrue, cond, eqb, sym, ap, ◌∙◌, subst, arith}
+-- What a structure is carried to is a structure, connected where the first is, with its counts and its dual.
+use Rattle.std.proofs.Common.{◌≡◌, ℕ, ◌+◌, ◌*◌, ◌/◌, ◌%◌, ◌<◌, ◌≤◌, IsTrue, cond, eqb, length, sym, ap, ◌∙◌, subst, arith}
+use Rattle.pm_limits.specs.declared.TheConstants.{MAX_EDGES}
 use Rattle.pm_perm.specs.Permutation.{IsPermutationBelow}
 use Rattle.pm_perm.specs.Cycles.{cycles}
 use Rattle.pm_perm.proofs.Renumbered.{cycles-renumbered}
-use Rattle.pm_map.specs.Structure.{Structure, IsStructure, IsClosedSet, IsConnected, CarriesTo, face_next}
-use Rattle.pm_map.specs.Plane.{HasEulerTwo}
+use Rattle.pm_map.specs.Structure.{Structure, IsStructure, IsClosedSet, IsConnected, CarriesTo, face_next, dual}
+use Rattle.pm_map.specs.Plane.{HasEulerTwo, IsPlane, vertices, faces}
+use Rattle.pm_map.specs.Rotation.{RotationSystem, structure_of, IsRootedMap}
+use Rattle.pm_map.specs.DualLaws.{DualIsStructure}
 use Rattle.pm_perm.proofs.InverseLemmas.{place_of, place_of-stays, value-place_of}
 
 -- a dart of the second structure comes from one of the first, and so do its next and its twin
@@ -78,19 +81,66 @@ face_permutes s structure = record {
       sym (structure.twin_back j hj) ∙ ap s.twin twins ∙ structure.twin_back k hk;
 }
 
--- Euler's number is carried
+-- the dual of a structure is a structure
+pub dual_is_structure : DualIsStructure
+dual_is_structure s structure = record {
+  rotation = face_permutes s structure;
+  twin_stays = structure.twin_stays;
+  twin_back = structure.twin_back;
+  twin_other = structure.twin_other;
+  root_stays = structure.root_stays;
+  no_root = structure.no_root;
+}
+
+-- what carries structures carries their duals
+pub dual_carries : (f : ℕ → ℕ) (a b : Structure) → IsStructure a → CarriesTo f a b → CarriesTo f (dual a) (dual b)
+dual_carries f a b structure carries = record {
+  darts = carries.darts;
+  renumbers = carries.renumbers;
+  next = λ d h. carries.next (a.twin d) (structure.twin_stays d h) ∙ ap b.next (carries.twin d h);
+  twin = carries.twin;
+  root = carries.root;
+}
+
+-- as many vertices, so as many faces, and Euler's number is carried
+pub vertices_carried : (f : ℕ → ℕ) (a b : Structure) → IsStructure a → IsStructure b → CarriesTo f a b → vertices a ≡ vertices b
+vertices_carried f a b one other carries =
+    let there : IsPermutationBelow a.darts b.next = subst (λ n. IsPermutationBelow n b.next) (sym carries.darts) other.rotation in
+    let counted : cycles a.darts a.next ≡ cycles a.darts b.next = cycles-renumbered a.darts f a.next b.next one.rotation there
+    (record { permutes = carries.renumbers; carries = λ k h. carries.next k h }) in
+    ap (λ v. cond (eqb a.darts 0) 1 v) counted ∙ ap (λ n. cond (eqb n 0) 1 (cycles n b.next)) carries.darts
+
+pub faces_carried : (f : ℕ → ℕ) (a b : Structure) → IsStructure a → IsStructure b → CarriesTo f a b → faces a ≡ faces b
+faces_carried f a b one other carries = vertices_carried f (dual a) (dual b) (dual_is_structure a one) (dual_is_structure b other) (dual_carries f a b one carries)
+
 pub euler_carried : (f : ℕ → ℕ) (a b : Structure) → IsStructure a → IsStructure b → CarriesTo f a b → HasEulerTwo a → HasEulerTwo b
 euler_carried f a b one other carries euler =
-    let there : IsPermutationBelow a.darts b.next = subst (λ n. IsPermutationBelow n b.next) (sym carries.darts) other.rotation in
-    let faces_there : IsPermutationBelow a.darts (face_next b) = subst (λ n. IsPermutationBelow n (face_next b)) (sym carries.darts) (face_permutes b other) in
-    let vertices : cycles a.darts a.next ≡ cycles a.darts b.next = cycles-renumbered a.darts f a.next b.next one.rotation there
-    (record { permutes = carries.renumbers; carries = λ k h. carries.next k h }) in
-    let faces : cycles a.darts (face_next a) ≡ cycles a.darts (face_next b) = cycles-renumbered a.darts f (face_next a) (face_next b) (face_permutes a one) faces_there
-    (record { permutes = carries.renumbers; carries = λ k h. carries.next (a.twin k) (one.twin_stays k h) ∙ ap b.next (carries.twin k h) }) in
-    by_numbers a.darts b.darts (cycles a.darts a.next) (cycles a.darts (face_next a)) b.next (face_next b) carries.darts vertices faces euler where
-      by_numbers : (n m v w : ℕ) (g h : ℕ → ℕ) → n ≡ m → v ≡ cycles n g → w ≡ cycles n h → cond (eqb n 0) 1 v + cond (eqb n 0) 1 w ≡ n / 2 + 2
-          → cond (eqb m 0) 1 (cycles m g) + cond (eqb m 0) 1 (cycles m h) ≡ m / 2 + 2
-      by_numbers n m v w g h darts vertices faces euler =
-          let one : cond (eqb n 0) 1 (cycles n g) + cond (eqb n 0) 1 w ≡ n / 2 + 2 = subst (λ x. cond (eqb n 0) 1 x + cond (eqb n 0) 1 w ≡ n / 2 + 2) vertices euler in
-          let both : cond (eqb n 0) 1 (cycles n g) + cond (eqb n 0) 1 (cycles n h) ≡ n / 2 + 2 = subst (λ x. cond (eqb n 0) 1 (cycles n g) + cond (eqb n 0) 1 x ≡ n / 2 + 2) faces one in
-          subst (λ k. cond (eqb k 0) 1 (cycles k g) + cond (eqb k 0) 1 (cycles k h) ≡ k / 2 + 2) darts both
+    by_numbers (vertices a) (vertices b) (faces a) (faces b) a.darts b.darts (vertices_carried f a b one other carries) (faces_carried f a b one other carries) carries.darts euler where
+      by_numbers : (v w g h n m : ℕ) → v ≡ w → g ≡ h → n ≡ m → v + g ≡ n / 2 + 2 → w + h ≡ m / 2 + 2
+      by_numbers v w g h n m vertices faces darts euler = omega arith
+
+-- what a plane structure is carried to is plane
+pub plane_carried : (f : ℕ → ℕ) (a b : Structure) → IsStructure b → CarriesTo f a b → IsPlane a → IsPlane b
+plane_carried f a b other carries plane = record {
+  structure = other;
+  connected = connected_carried f a b carries plane.connected;
+  euler = euler_carried f a b plane.structure other carries plane.euler;
+}
+
+-- a rooted map is plane
+pub rooted_is_plane : (m : RotationSystem) → IsRootedMap m → IsPlane (structure_of m)
+rooted_is_plane m rooted = record { structure = rooted.structure; connected = rooted.connected; euler = rooted.euler }
+
+-- what a plane structure of so many darts is carried to is a rooted map, if its twins are 2k and 2k+1 and its root is 0
+-- where there is no dart
+pub rooted_carried : (f : ℕ → ℕ) (a : Structure) (m : RotationSystem) → IsPlane a → a.darts % 2 ≡ 0 → a.darts ≤ 2 * MAX_EDGES
+    → CarriesTo f a (structure_of m) → (length m.sigma ≡ 0 → m.root ≡ 0) → IsRootedMap m
+rooted_carried f a m plane even few carries no_root =
+    let there = plane_carried f a (structure_of m) (structure_carried f a (structure_of m) plane.structure carries no_root) carries plane in
+    record {
+      even = subst (λ n. n % 2 ≡ 0) carries.darts even;
+      few = subst (λ n. n ≤ 2 * MAX_EDGES) carries.darts few;
+      structure = there.structure;
+      connected = there.connected;
+      euler = there.euler;
+    }

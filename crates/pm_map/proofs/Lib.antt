@@ -3,6 +3,7 @@ pub mod CarriedDegrees
 pub mod CarriedMeeting
 pub mod CarriedSizes
 pub mod CarriedStructure
+pub mod ClassesKept
 pub mod CycleSizes
 pub mod DegreeCounts
 pub mod DegreeRules
@@ -10,6 +11,7 @@ pub mod DegreeTotals
 pub mod DegreesTaken
 pub mod DistanceLemmas
 pub mod DistanceRounds
+pub mod DualMaps
 pub mod EulerLemmas
 pub mod FaceWalkLemmas
 pub mod MarksLemmas

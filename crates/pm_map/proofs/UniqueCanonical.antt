@@ -1,27 +1,17 @@
 -- A rooted map has one canonical map, and the maps that are the same are those with equal canonical maps.
-use Rattle.std.proofs.Common.{◌≡◌, ◌*◌, ◌%◌, ◌≤◌, length, subst}
-use Rattle.pm_limits.specs.declared.TheConstants.{MAX_EDGES}
-use Rattle.pm_map.specs.Structure.{CarriesTo, Same}
+use Rattle.std.proofs.Common.{◌≡◌, subst}
+use Rattle.pm_map.specs.Structure.{Same}
 use Rattle.pm_map.specs.Rotation.{RotationSystem, structure_of, IsRootedMap}
 use Rattle.pm_map.specs.Canonical.{IsCanonicalOf}
 use Rattle.pm_map.specs.CanonicalLaws.{CanonicalIsRooted, CanonicalIsUnique, CanonicalTellsMaps}
-use Rattle.pm_map.proofs.CarriedStructure.{structure_carried, connected_carried, euler_carried}
+use Rattle.pm_map.proofs.CarriedStructure.{rooted_carried, rooted_is_plane}
 use Rattle.pm_map.proofs.CanonicalNames.{same_canonical_maps_are_equal}
 use Rattle.pm_map.proofs.SameMaps.{same_symmetric, same_transitive}
 
 -- the canonical map of a rooted map is a rooted map
 pub canonical_map_is_rooted : CanonicalIsRooted
 canonical_map_is_rooted map canonical valid is =
-    let carries : CarriesTo is.is_same.0 (structure_of map) (structure_of canonical) = is.is_same.1 in
-    let darts : length map.sigma ≡ length canonical.sigma = carries.darts in
-    let structure = structure_carried is.is_same.0 (structure_of map) (structure_of canonical) valid.structure carries (λ none. is.is_canonical.root) in
-    record {
-      even = subst (λ n. n % 2 ≡ 0) darts valid.even;
-      few = subst (λ n. n ≤ 2 * MAX_EDGES) darts valid.few;
-      structure = structure;
-      connected = connected_carried is.is_same.0 (structure_of map) (structure_of canonical) carries valid.connected;
-      euler = euler_carried is.is_same.0 (structure_of map) (structure_of canonical) valid.structure structure carries valid.euler;
-    }
+    rooted_carried is.is_same.0 (structure_of map) canonical (rooted_is_plane map valid) valid.even valid.few is.is_same.1 (λ none. is.is_canonical.root)
 
 -- canonical maps of maps that are the same are equal
 pub canonical_maps_agree : (a b canonical_a canonical_b : RotationSystem) → IsRootedMap a → IsRootedMap b → IsCanonicalOf a canonical_a → IsCanonicalOf b canonical_b → Same (structure_of a) (structure_of b) → canonical_a ≡ canonical_b

@@ -1,5 +1,5 @@
 -- The classes of maps, each with its sizes: numbers, or lists of pairs of a degree and a count, in rising order of the
--- degree. All maps of a class are plane.
+-- degree. Whatever is in a class is a plane structure.
 use Rattle.std.specs.Prelude.{◌≡◌, ◌≢◌, ℕ, suc, ◌+◌, ◌%◌, ◌<◌, ◌&&◌, ◌==◌, List, length, slice_index_or, if◌then◌else◌}
 use Rattle.pm_perm.specs.Count.{count_below}
 use Rattle.pm_perm.specs.Cycles.{leader}

@@ -7,6 +7,7 @@ pub mod CycleSize
 pub mod DegreeScan
 pub mod DegreeTable
 pub mod DistanceLaws
+pub mod DualLaws
 pub mod Ends
 pub mod FaceDistance
 pub mod FaceWalk
@@ -18,6 +19,7 @@ pub mod Plane
 pub mod Reached
 pub mod ReachAnswers
 pub mod Rotation
+pub mod SameLaws
 pub mod Search
 pub mod Simple
 pub mod Structure

@@ -1,7 +1,7 @@
--- Plane maps: connected, and with Euler's number 2.
+-- Plane maps: connected structures with Euler's number 2.
 use Rattle.std.specs.Prelude.{◌≡◌, ℕ, ◌+◌, ◌/◌, ◌==◌, if◌then◌else◌, ℤ, pos, ◌-ℤ◌}
 use Rattle.pm_perm.specs.Cycles.{cycles}
-use Rattle.pm_map.specs.Structure.{Structure, IsConnected, face_next}
+use Rattle.pm_map.specs.Structure.{Structure, IsStructure, IsConnected, face_next}
 
 -- the number of vertices: of cycles of the rotation; the structure without darts has one
 abbrev pub vertices : Structure → ℕ
@@ -25,5 +25,6 @@ euler_number s = pos (vertices s + faces s) -ℤ pos (edges s)
 
 -- a plane structure
 pub record IsPlane (s : Structure) : Type 0 where
+  pub structure : IsStructure s
   pub connected : IsConnected s
   pub euler : HasEulerTwo s

@@ -1,7 +1,11 @@
+ghost use Rattle.std.specs.Prelude.{ℕ, List};
 ghost use Rattle.pm_map.specs.CanonicalLaws.{CanonicalIsRooted, CanonicalIsUnique, CanonicalTellsMaps};
 ghost use Rattle.pm_map.specs.ClassLaws.{DegreeCountsDarts};
 ghost use Rattle.pm_map.specs.DistanceLaws.{LevelsAreDistances, EachFaceHasDistance, DistancesAreCarried};
+ghost use Rattle.pm_map.specs.Classes.{IsBipartite, IsEulerian, IsGeneral, IsQuartic, IsTriangulation};
+ghost use Rattle.pm_map.specs.DualLaws.{DualExchangesCounts, DualIsRooted, DualIsStructure, DualTwiceIsSame, DualsTell, FaceDegreeCountsDarts};
 ghost use Rattle.pm_map.specs.Parts.{HasOneMapAnswer};
+ghost use Rattle.pm_map.specs.SameLaws.{IsKept, SameIsReflexive, SameIsSymmetric, SameIsTransitive};
 
 /// What canonical maps are for, as a law to call upon; nothing is computed. The canonical map of a rooted map is a rooted
 /// map, a rooted map has no two canonical maps, and two rooted maps are the same, up to a renumbering of their darts,
@@ -31,4 +35,33 @@ pub fn face_levels_are_distances()
     ensures levels { LevelsAreDistances }
     ensures each { EachFaceHasDistance }
     ensures carried { DistancesAreCarried }
+{}
+
+/// To be the same, up to a renumbering of the darts, is an equivalence of structures; nothing is computed.
+pub fn same_is_equivalence()
+    ensures reflexive { SameIsReflexive }
+    ensures symmetric { SameIsSymmetric }
+    ensures transitive { SameIsTransitive }
+{}
+
+/// Structures that are the same are in the same classes, with the same sizes; nothing is computed.
+pub fn classes_are_kept()
+    ensures quartic { (n : ℕ) → IsKept (λ s. IsQuartic s n) }
+    ensures general { (n : ℕ) → IsKept (λ s. IsGeneral s n) }
+    ensures eulerian { (pairs : List (ℕ × ℕ)) → IsKept (λ s. IsEulerian s pairs) }
+    ensures bipartite { (pairs : List (ℕ × ℕ)) → IsKept (λ s. IsBipartite s pairs) }
+    ensures triangulation { (n : ℕ) → IsKept (λ s. IsTriangulation s n) }
+{}
+
+/// What duals are, as a law to call upon; nothing is computed. The dual of a structure is a structure, and that of a
+/// rooted map a rooted map. Its vertices are the faces, and its faces the vertices; so the degree of a face, the least
+/// number of steps around it that lead back to a dart, is the number of its darts. The dual of the dual is the same as
+/// the structure, and two structures are the same exactly where their duals are.
+pub fn dual_is_a_map()
+    ensures structure { DualIsStructure }
+    ensures rooted { DualIsRooted }
+    ensures counts { DualExchangesCounts }
+    ensures degrees { FaceDegreeCountsDarts }
+    ensures twice { DualTwiceIsSame }
+    ensures tells { DualsTell }
 {}

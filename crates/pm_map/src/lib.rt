@@ -22,7 +22,8 @@ pub use class_refusal::ClassRefusal;
 pub use counting::Counts;
 pub use face_walk::FaceWalk;
 pub use laws::{
-    canonical_is_unique, degree_counts_darts, face_levels_are_distances, map_answer_is_unique,
+    canonical_is_unique, classes_are_kept, degree_counts_darts, dual_is_a_map,
+    face_levels_are_distances, map_answer_is_unique, same_is_equivalence,
 };
 pub use refusal::MapRefusal;
 pub use rooted_map::RootedMap;
