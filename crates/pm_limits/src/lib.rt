@@ -6,3 +6,8 @@ pub const MAX_EDGES: u32 = 4_194_304;
 
 /// The greatest degree of a node of a blossoming tree, and of a vertex of a map that opens.
 pub const MAX_DEGREE: u32 = 64;
+
+// The numbers themselves: with another one this crate isn't proved.
+const _: () = prove!(MAX_EDGES == 4_194_304);
+
+const _: () = prove!(MAX_DEGREE == 64);
