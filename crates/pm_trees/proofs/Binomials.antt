@@ -1,6 +1,7 @@
 -- Binomial coefficients: Pascal's rule, how one follows from its neighbour by a product and a quotient, and a bound.
 use Rattle.std.proofs.Common.{◌≡◌, ℕ, zero, suc, ◌+◌, ◌-◌, ◌*◌, ◌/◌, ◌^◌, ◌≤◌, ◌<◌, refl, ap, sym, ◌∙◌, arith}
 use Rattle.std.proofs.Math.Nat.{mul-div_cancel_left}
+use Rattle.pm_limits.specs.declared.TheConstants.{MAX_DEGREE}
 use Rattle.pm_trees.specs.Binomial.{choose}
 
 pub choose_none : (n : ℕ) → choose n 0 ≡ 1
@@ -148,7 +149,7 @@ share_at total (suc n) slots some few e =
 -- the middle coefficient of a number of places, and that it is small
 pub record IsCentral (i count : ℕ) : Type 0 where
   pub counted : count ≡ choose (2 * i - 1) i
-  pub small : i ≤ 32 → count < 2 ^ 64
+  pub small : i ≤ MAX_DEGREE / 2 → count < 2 ^ 64
 
 central_is : (i count : ℕ) → count ≡ choose (2 * i - 1) i → IsCentral i count
 central_is i count e = record { counted = e; small = λ h. let a = choose_small (2 * i - 1) i (omega arith) in omega (arith, a, e) }

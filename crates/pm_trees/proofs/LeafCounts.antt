@@ -1,9 +1,9 @@
 -- The walk along the letters to the leaf of a number.
-use Rattle.std.proofs.Common.{◌≡◌, ℕ, suc, ◌+◌, ◌-◌, ◌<◌, List, length, slice_index, take, refl, ap, sym, ◌∙◌, subst, arith, take_all}
+use Rattle.std.proofs.Common.{◌≡◌, ℕ, suc, ◌+◌, ◌-◌, ◌<◌, List, ◌∷◌, length, slice_index, take, refl, ap, sym, ◌∙◌, subst, arith, take_all}
 use Rattle.pm_trees.specs.declared.letters.TheConstants.{LEAF}
 use Rattle.pm_trees.specs.Word.{count, contour}
 use Rattle.pm_trees.specs.Leaves.{IsLeafAt}
-use Rattle.pm_trees.proofs.Tally.{tally_is}
+use Rattle.pm_trees.proofs.Tally.{tally_is, tally_yes}
 use Rattle.pm_trees.proofs.Levels.{seen, seen_is, seen_none, seen_yes, seen_no}
 
 -- so many leaves are still to be passed, with the one that is sought
@@ -49,3 +49,11 @@ counting_end word leaf left i c e l =
     let b : take (suc i) (contour word) ≡ contour word = take_all (suc i) (contour word) (omega (arith, e)) in
     let d = ap (count LEAF) b in
     omega (arith, a, c.sum, c.some, d, l)
+
+-- the leaves before a place behind the plant
+pub count_before : (letters : List ℕ) (place n : ℕ) → (place ≡ 0 → ⊥) → n ≡ count LEAF (take (place - 1) letters) → n + 1 ≡ count LEAF (take place (contour letters))
+count_before letters place n some e =
+    let next : suc (place - 1) ≡ place = omega arith in
+    let one : n + 1 ≡ suc n = omega arith in
+    one ∙ ap suc (e ∙ sym (tally_is LEAF (take (place - 1) letters))) ∙ sym (tally_yes LEAF LEAF (take (place - 1) letters) refl)
+    ∙ tally_is LEAF (LEAF ∷ take (place - 1) letters) ∙ ap (λ (k : ℕ). count LEAF (take k (contour letters))) next

@@ -25,7 +25,9 @@ pub mod Stack
 pub mod Subtree
 pub mod Tables
 pub mod Tally
+pub mod TreeEdges
 pub mod Turns
 pub mod Unique
+pub mod UniqueProfile
 pub mod Walk
 pub mod Weights

@@ -1,8 +1,9 @@
 -- The walk along pairs of a degree and a count: the first that isn't right, and the sum of the degrees.
-use Rattle.std.proofs.Common.{◌≡◌, ℕ, zero, suc, ◌+◌, ◌*◌, ◌^◌, ◌≤◌, ◌<◌, inl, inr, List, length, take, refl, ap, sym, ◌∙◌, subst, arith, take_all}
+use Rattle.std.proofs.Common.{◌≡◌, ℕ, zero, suc, ◌+◌, ◌*◌, ◌%◌, ◌^◌, ◌≤◌, ◌<◌, inl, inr, List, [], ◌∷◌, length, take, refl, ap, sym, ◌∙◌, subst, arith, take_all}
 use Rattle.std.proofs.Math.Nat.{mul-le-mul}
 use Rattle.std.proofs.lemmas.Bool.{cases_lt, cases_eq}
-use Rattle.std.proofs.lemmas.List.Sums.{sum_by_more}
+use Rattle.std.proofs.lemmas.List.Sums.{sum_by-cons, sum_by_more}
+use Rattle.pm_limits.specs.declared.TheConstants.{MAX_DEGREE}
 use Rattle.pm_trees.specs.First.{IsFirst}
 use Rattle.pm_trees.specs.Pairs.{pair_at, degree_before, IsRight, IsRightPair, BreaksPair, ArePairs, degree_sum}
 use Rattle.pm_trees.specs.Pairs.BreaksPair.{empty, wrong}
@@ -50,7 +51,7 @@ degree_above pairs (suc k) a l =
 
 pub record IsSummed (pairs : List (ℕ × ℕ)) (sum i : ℕ) : Type 0 where
   pub counted : sum ≡ degree_sum (take i pairs)
-  pub small : sum ≤ i * 2 ^ 38
+  pub small : sum ≤ i * (MAX_DEGREE * 2 ^ 32)
 
 -- the next pair is counted, and the sum stays small
 pub record IsNextSum (pairs : List (ℕ × ℕ)) (sum i degree count : ℕ) : Type 0 where
@@ -64,9 +65,9 @@ pub summed_next : (pairs : List (ℕ × ℕ)) (sum i degree count : ℕ) → i <
 summed_next pairs sum i degree count l a e f small s =
     let d = degree_above pairs i a l in
     let r = a.right i l in
-    let x : degree ≤ 64 = omega (arith, r.few, e) in
+    let x : degree ≤ MAX_DEGREE = omega (arith, r.few, e) in
     let y : count ≤ 2 ^ 32 = omega arith in
-    let m : degree * count ≤ 64 * 2 ^ 32 = mul-le-mul {n₁ = degree} {m₁ = count} {n₂ = 64} {m₂ = 2 ^ 32} x y in
+    let m : degree * count ≤ MAX_DEGREE * 2 ^ 32 = mul-le-mul {n₁ = degree} {m₁ = count} {n₂ = MAX_DEGREE} {m₂ = 2 ^ 32} x y in
     let g = sum_by_more (λ (p : ℕ × ℕ). p.0 * p.1) pairs i (0, 0) l in
     let p : degree * count ≡ (pair_at pairs i).0 * (pair_at pairs i).1 = ap (λ (x : ℕ). x * count) e ∙ ap (λ (x : ℕ). (pair_at pairs i).0 * x) f in
     record {
@@ -76,3 +77,19 @@ summed_next pairs sum i degree count l a e f small s =
 
 pub summed_end : (pairs : List (ℕ × ℕ)) (sum i : ℕ) → length pairs ≤ i → IsSummed pairs sum i → sum ≡ degree_sum pairs
 summed_end pairs sum i e s = s.counted ∙ ap degree_sum (take_all i pairs e)
+
+-- where all degrees are even, so is their sum
+even_times : (degree count : ℕ) → degree % 2 ≡ 0 → (degree * count) % 2 ≡ 0
+even_times degree zero e = let a : degree * 0 ≡ 0 = omega arith in ap (λ (x : ℕ). x % 2) a
+even_times degree (suc count) e =
+    let before = even_times degree count e in
+    let a : degree * suc count ≡ degree * count + degree = omega arith in
+    omega (arith, before, e, a)
+
+pub degree_sum-even : (pairs : List (ℕ × ℕ)) → ((k : ℕ) → k < length pairs → (pair_at pairs k).0 % 2 ≡ 0) → degree_sum pairs % 2 ≡ 0
+degree_sum-even [] even = refl
+degree_sum-even (p ∷ pairs) even =
+    let here = even_times p.0 p.1 (even 0 (omega arith)) in
+    let rest = degree_sum-even pairs (λ k l. even (suc k) (omega arith)) in
+    let whole = sum_by-cons (λ (q : ℕ × ℕ). q.0 * q.1) p pairs in
+    omega (arith, here, rest, whole)

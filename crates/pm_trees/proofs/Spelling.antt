@@ -4,6 +4,7 @@ use Rattle.std.proofs.Math.ListN.{set, length-set}
 use Rattle.std.proofs.Math.Seq.{drop-cons}
 use Rattle.std.proofs.lemmas.Bool.{cases_lt}
 use Rattle.std.proofs.lemmas.List.{take_more_set}
+use Rattle.pm_limits.specs.declared.TheConstants.{MAX_DEGREE}
 use Rattle.pm_trees.specs.declared.letters.TheConstants.{BUD}
 use Rattle.pm_trees.specs.declared.patterns.TheConstants.{SLOT}
 use Rattle.pm_trees.specs.Binomial.{choose}
@@ -36,7 +37,7 @@ writing_start half rank out left total h r l e t = record {
 -- what a turn may take for granted
 pub record IsTurn (half left slots total : ℕ) : Type 0 where
   pub some : 0 < left
-  pub few : left < 64
+  pub few : left < MAX_DEGREE
   pub within : slots ≤ left
   pub counted : total ≡ choose left slots
 
@@ -117,7 +118,7 @@ writing_end half rank out i left slots total rest e w =
 
 -- the letters that are left to be read, and what they still add to the rank
 pub record IsSpelled (word : List ℕ) (i left slots total before : ℕ) : Type 0 where
-  pub short : length word < 64
+  pub short : length word < MAX_DEGREE
   pub turns : i + left ≡ length word
   pub counted : total ≡ choose left slots
   pub remains : IsOf left slots (drop i word)

@@ -10,7 +10,8 @@ use Rattle.pm_trees.specs.Blossoming.{IsBlossoming}
 use Rattle.pm_trees.specs.Reading.{IsAnswer, IsTooLong, HasBadDegree, HasBadBuds, HasOneAnswer}
 use Rattle.pm_trees.proofs.Stack.{no_fault}
 
-first_same : (P : ℕ → Type 0) (a b : ℕ) → IsFirst P a → IsFirst P b → a ≡ b
+-- there is one least place with a property
+pub first_same : (P : ℕ → Type 0) (a b : ℕ) → IsFirst P a → IsFirst P b → a ≡ b
 first_same P a b p q = let e = p.least b q.here in let f = q.least a p.here in omega arith
 
 -- the answers in the order of the rules, each with the rules that hold before it

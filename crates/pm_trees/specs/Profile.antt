@@ -29,3 +29,16 @@ IsTableAnswer counts (Ok profile) = AreListed counts profile × IsProfile profil
 IsTableAnswer counts (Err (Pair place)) = (pairs : List (ℕ × ℕ)) × AreListed counts pairs × IsFirst (BreaksPair pairs) place
 IsTableAnswer counts (Err (TooMany edges)) = (pairs : List (ℕ × ℕ)) × AreListed counts pairs × HasTooMany pairs edges
 IsTableAnswer counts (Err Memory) = ⊤
+
+-- A list of pairs has one answer, but for want of memory: so each refusal comes exactly where its rule is the first that
+-- fails.
+abbrev pub PairsHaveOneAnswer : Type 0
+PairsHaveOneAnswer =
+    (pairs : List (ℕ × ℕ)) (first second : Result Profile ProfileRefusal) → IsProfileAnswer pairs first → IsProfileAnswer pairs second
+    → (first ≡ Err Memory → ⊥) → (second ≡ Err Memory → ⊥) → first ≡ second
+
+-- and so has a table of counts
+abbrev pub TableHasOneAnswer : Type 0
+TableHasOneAnswer =
+    (counts : List ℕ) (first second : Result Profile ProfileRefusal) → IsTableAnswer counts first → IsTableAnswer counts second
+    → (first ≡ Err Memory → ⊥) → (second ≡ Err Memory → ⊥) → first ≡ second

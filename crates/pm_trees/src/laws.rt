@@ -26,3 +26,12 @@ pub fn profiles_are_kept()
     ensures unique { ProfileIsUnique }
     ensures kept { ProfileIsKept }
 {}
+
+ghost use Rattle.pm_trees.specs.Profile.{PairsHaveOneAnswer, TableHasOneAnswer};
+
+/// There is one answer to a list of pairs, and one to a table of counts, but for want of memory.
+#[tactic(auto, using(crate::proofs::UniqueProfile::pairs_once, crate::proofs::UniqueProfile::table_once))]
+pub fn profile_answer_is_unique()
+    ensures pairs { PairsHaveOneAnswer }
+    ensures table { TableHasOneAnswer }
+{}

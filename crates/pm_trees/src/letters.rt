@@ -9,3 +9,6 @@ pub const OPEN: u8 = b'(';
 
 /// The end of an edge to a child.
 pub const CLOSE: u8 = b')';
+
+// Words of trees are read and written as text, so these bytes never change.
+const _: () = prove!(LEAF == b'l' && BUD == b'b' && OPEN == b'(' && CLOSE == b')');

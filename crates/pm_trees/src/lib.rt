@@ -17,7 +17,9 @@ mod tree;
 
 pub use bracketing::brackets;
 pub use degrees::profile_of;
-pub use laws::{answer_is_unique, profiles_are_kept, trees_are_replanted};
+pub use laws::{
+    answer_is_unique, profile_answer_is_unique, profiles_are_kept, trees_are_replanted,
+};
 pub use leaf_places::leaf_place;
 pub use letters::{BUD, CLOSE, LEAF, OPEN};
 pub use patterns::{SLOT, pattern, pattern_count, patterns_are_ranked, rank};

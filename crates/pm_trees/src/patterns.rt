@@ -4,9 +4,13 @@ ghost use Rattle.pm_trees.specs.Binomial.{choose};
 ghost use Rattle.pm_trees.specs.BudPattern.{HasRank, IsHalfDegree, IsPattern, PatternsAreRanked, half_degree};
 
 use crate::letters::BUD;
+use pm_limits::MAX_DEGREE;
 
 /// In a bud pattern, a child or a leaf.
 pub const SLOT: u8 = b'c';
+
+// The two letters of a pattern, in the order of the dictionary.
+const _: () = prove!(BUD == b'b' && SLOT == b'c');
 
 /// The number of bud patterns of a node of degree 2i, C(2i-1, i), where `half` is i, from 1 to half of `MAX_DEGREE`.
 pub fn pattern_count(half: u32) -> u64
@@ -24,7 +28,7 @@ pub fn pattern_count(half: u32) -> u64
 fn bud_share(total: u64, letters: u32, slots: u32) -> u64
     requires total { total ≡ choose letters slots }
     requires some { 0 < letters }
-    requires few { letters < 64 }
+    requires few { letters < MAX_DEGREE }
     requires slots { slots ≤ letters }
     ensures { result ≡ choose (letters - 1) slots }
 {

@@ -47,8 +47,8 @@ impl Model for Profile {
 }
 
 impl Profile {
-    ghost use Rattle.std.specs.Prelude.{◌<◌, ◌^◌, length};
-    ghost use Rattle.pm_trees.specs.Pairs.{IsProfile};
+    ghost use Rattle.std.specs.Prelude.{◌*◌, ◌<◌, ◌≤◌, ◌^◌, length};
+    ghost use Rattle.pm_trees.specs.Pairs.{IsProfile, degree_sum, edges_of};
     ghost use Rattle.pm_trees.specs.Profile.{IsProfileAnswer, IsTableAnswer};
 
     /// Takes pairs of a degree and a count, of fewer than 2^32 pairs.
@@ -91,5 +91,14 @@ impl Profile {
         ensures valid { IsProfile self.now }
     {
         &self.pairs
+    }
+
+    /// The edges of a map whose vertices have these degrees: half of the sum of the degrees.
+    pub fn edges(&self) -> u32
+        ensures edges { result ≡ edges_of self.now }
+        ensures exact { 2 * result ≡ degree_sum self.now }
+        ensures few { result ≤ MAX_EDGES }
+    {
+        (degree_sum(&self.pairs) / 2) as u32
     }
 }

@@ -48,7 +48,7 @@ impl Model for Tree {
 }
 
 impl Tree {
-    ghost use Rattle.std.specs.Prelude.{◌+◌};
+    ghost use Rattle.std.specs.Prelude.{◌+◌, ◌*◌, ◌≤◌, suc, length, take};
     ghost use Rattle.pm_trees.specs.Word.{contour, count};
     ghost use Rattle.pm_trees.specs.Blossoming.{IsBlossoming, edges, nodes, leaves};
     ghost use Rattle.pm_trees.specs.declared.letters.TheConstants.{BUD};
@@ -74,7 +74,8 @@ impl Tree {
 
     /// The edges of the tree's closure: half of the letters and the plant together.
     pub fn edges(&self) -> u32
-        ensures { result ≡ edges self.now }
+        ensures edges { result ≡ edges self.now }
+        ensures exact { 2 * result ≡ suc (length self.now) }
     {
         ((self.letters.len() + 1) / 2) as u32
     }
@@ -91,6 +92,18 @@ impl Tree {
         ensures { result ≡ leaves self.now }
     {
         occurrences(&self.letters, LEAF) + 1
+    }
+
+    /// How many leaves stand before this place of the contour, the plant among them: the number of a leaf, from 0, where
+    /// one stands at the place.
+    pub fn leaves_before(&self, place: u32) -> u32
+        requires { place ≤ length self.now }
+        ensures { result ≡ count LEAF (take place (contour self.now)) }
+    {
+        if place == 0 {
+            return 0;
+        }
+        occurrences(&self.letters[..place as usize - 1], LEAF) + 1
     }
 }
 
