@@ -9,7 +9,7 @@ use Rattle.pm_map.specs.Structure.{CarriesTo}
 use Rattle.pm_map.specs.Rotation.{structure_of}
 use Rattle.pm_close.specs.Closure.{IsClosed, dart_of}
 use Rattle.pm_close.specs.Level.{IsLevel, AreLevels}
-use Rattle.pm_close.specs.Levelling.{AreLevelsAt}
+use Rattle.pm_close.specs.steps.Levelling.{AreLevelsAt}
 use Rattle.pm_close.specs.Twinning.{IsTwinning, IsTwinList}
 use Rattle.pm_close.proofs.TwinLemmas.{twins_apart}
 use Rattle.pm_close.proofs.ClosureLemmas.{IsLaidOut, laid_out, laid_out_closes, laid_out_twins, bracketing_across}

@@ -9,7 +9,7 @@ use Rattle.pm_perm.specs.Permutation.{IsPermutationList}
 use Rattle.pm_trees.specs.declared.letters.TheConstants.{LEAF, BUD}
 use Rattle.pm_trees.specs.Word.{count, contour}
 use Rattle.pm_close.specs.Level.{IsLevel}
-use Rattle.pm_close.specs.Levelling.{IsLow, IsLevelled, AreLevelsAt}
+use Rattle.pm_close.specs.steps.Levelling.{IsLow, IsLevelled, AreLevelsAt}
 
 -- what a letter adds to the counts of a front
 record IsCounted (letters : List ℕ) (index bud leaf : ℕ) : Type 0 where

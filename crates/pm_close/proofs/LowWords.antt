@@ -7,7 +7,7 @@ use Rattle.pm_trees.proofs.Tally.{tally_is, tally_yes}
 use Rattle.pm_match.specs.Pair.{IsBalanced}
 use Rattle.pm_match.proofs.Counts.{buds, leaves, surplus_from}
 use Rattle.pm_match.proofs.Straight.{low}
-use Rattle.pm_close.specs.Levelling.{IsLow}
+use Rattle.pm_close.specs.steps.Levelling.{IsLow}
 
 -- the plant before a word
 plant_leaf : (xs : List ℕ) → count LEAF (LEAF ∷ xs) ≡ suc (count LEAF xs)

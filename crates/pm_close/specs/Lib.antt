@@ -1,9 +1,8 @@
 pub mod Closing
 pub mod Closure
-pub mod Joining
 pub mod Laws
 pub mod Level
-pub mod Levelling
 pub mod NodeDegrees
 pub mod Nodes
 pub mod Twinning
+pub mod steps

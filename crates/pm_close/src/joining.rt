@@ -1,7 +1,7 @@
 ghost use Rattle.std.specs.Prelude.{◌≡◌, ℕ, ◌<◌, length, vec_len, IfOk};
 ghost use Rattle.pm_trees.specs.Word.{contour, IsBracketing};
 ghost use Rattle.pm_match.specs.Pairing.{IsPairing};
-ghost use Rattle.pm_close.specs.Joining.{IsJoined};
+ghost use Rattle.pm_close.specs.steps.Joining.{IsJoined};
 ghost use Rattle.pm_close.specs.Twinning.{IsTwinList};
 
 use pm_match::Pairing;

@@ -1,7 +1,7 @@
 //! The levels of the darts of a closure.
 ghost use Rattle.std.specs.Prelude.{◌≡◌, suc, ◌^◌, ◌<◌, length, IfOk};
 ghost use Rattle.pm_perm.specs.Permutation.{IsPermutationList};
-ghost use Rattle.pm_close.specs.Levelling.{IsLow, AreLevelsAt};
+ghost use Rattle.pm_close.specs.steps.Levelling.{IsLow, AreLevelsAt};
 
 use pm_trees::{BUD, LEAF};
 use std::alloc::{AllocError, Global};

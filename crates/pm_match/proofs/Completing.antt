@@ -6,7 +6,7 @@ use Rattle.std.proofs.lemmas.List.{length_push, length-take-le}
 use Rattle.std.proofs.lemmas.Option.{slice_get_within, slice_get-get_or, get_or_from_slice_get}
 use Rattle.pm_trees.specs.declared.letters.TheConstants.{LEAF, BUD}
 use Rattle.pm_match.specs.Pair.{IsPair}
-use Rattle.pm_match.specs.Waiting.{bud_at, with_leaf, top_of}
+use Rattle.pm_match.specs.steps.Waiting.{bud_at, with_leaf, top_of}
 use Rattle.pm_match.specs.Pairing.{Pairs, IsPairing}
 use Rattle.pm_match.proofs.Counts.{letter, buds, leaves, letter-second, bud_within, leaf_within, IsStep, at_bud, at_leaf, at_other, HasSurplus}
 use Rattle.pm_match.proofs.Meeting.{pair_second, pair_unique, pair_unique_leaf, turned}

@@ -6,7 +6,7 @@ use Rattle.pm_trees.specs.declared.letters.TheConstants.{LEAF, BUD}
 use Rattle.pm_trees.specs.Word.{count, contour}
 use Rattle.pm_match.specs.Pair.{IsFree}
 use Rattle.pm_match.specs.Pairing.{Pairs, IsPairing}
-use Rattle.pm_match.specs.Waiting.{with_leaf, top_of}
+use Rattle.pm_match.specs.steps.Waiting.{with_leaf, top_of}
 use Rattle.pm_match.proofs.Counts.{HasSurplus, surplus_from}
 use Rattle.pm_match.proofs.Turns.{IsFirstTurn, first_none, first_bud, first_meet, first_loose, first_other}
 use Rattle.pm_match.proofs.Completing.{IsSecondTurn, second_none, second_bud, second_inner_leaf, second_meet, second_loose, second_other, found}

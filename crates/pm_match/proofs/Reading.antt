@@ -6,7 +6,7 @@ use Rattle.std.proofs.lemmas.Bool.{cases_lt, cases_eq}
 use Rattle.std.proofs.lemmas.List.{length-set, length_push, get_or_push, get_or_append_left, get_or-set_same, get_or-set_other, get_or-take, length-take-le}
 use Rattle.pm_trees.specs.declared.letters.TheConstants.{LEAF, BUD}
 use Rattle.pm_match.specs.Pair.{IsPair}
-use Rattle.pm_match.specs.Waiting.{bud_at, with_leaf, top_of}
+use Rattle.pm_match.specs.steps.Waiting.{bud_at, with_leaf, top_of}
 use Rattle.pm_match.proofs.Counts.{letter, buds, leaves, IsStep, at_bud, at_leaf, at_other}
 use Rattle.pm_match.proofs.Meeting.{IsMeeting}
 use Rattle.pm_match.proofs.Rise.{IsRise, rise_none, rise_bud, rise_leaf, rise_loose, rise_other}

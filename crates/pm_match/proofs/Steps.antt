@@ -6,7 +6,7 @@ use Rattle.std.proofs.lemmas.List.{get_or_read}
 use Rattle.pm_trees.specs.declared.letters.TheConstants.{LEAF, BUD}
 use Rattle.pm_trees.specs.Word.{count, contour}
 use Rattle.pm_match.specs.Pairing.{IsPairing}
-use Rattle.pm_match.specs.Waiting.{Opens, Meets, Passes}
+use Rattle.pm_match.specs.steps.Waiting.{Opens, Meets, Passes}
 use Rattle.pm_match.proofs.Counts.{HasSurplus, surplus_from}
 use Rattle.pm_match.proofs.Rise.{IsRise}
 use Rattle.pm_match.proofs.Turns.{IsFirstTurn, first_none, first_bud, first_meet, first_loose, first_other}

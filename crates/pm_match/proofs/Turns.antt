@@ -6,7 +6,7 @@ use Rattle.std.proofs.lemmas.Bool.{cases_lt, cases_eq}
 use Rattle.std.proofs.lemmas.List.{length_push, get_or_push, get_or_append_left}
 use Rattle.pm_trees.specs.declared.letters.TheConstants.{LEAF, BUD}
 use Rattle.pm_match.specs.Pair.{IsPair, IsFree}
-use Rattle.pm_match.specs.Waiting.{bud_at, with_leaf, top_of}
+use Rattle.pm_match.specs.steps.Waiting.{bud_at, with_leaf, top_of}
 use Rattle.pm_match.proofs.Counts.{letter, letter-first}
 use Rattle.pm_match.proofs.Meeting.{pair_first}
 use Rattle.pm_match.proofs.Reading.{bud_at-push, bud_at-before, length-with_leaf, bud_at-with_leaf, open_meets, IsStacked, stacked_push, IsReading, reading_none, reading_bud, reading_meet, reading_loose, reading_other, top_within, top_opens}

@@ -1,4 +1,4 @@
 pub mod Pair
 pub mod Pairing
 pub mod Turning
-pub mod Waiting
+pub mod steps

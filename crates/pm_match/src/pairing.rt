@@ -3,7 +3,7 @@ ghost use Rattle.std.specs.Bool.{OnTrue, OnFalse};
 ghost use Rattle.pm_trees.specs.declared.letters.TheConstants.{LEAF as leaf, BUD as bud};
 ghost use Rattle.pm_trees.specs.Word.{count, contour};
 ghost use Rattle.pm_match.specs.Pairing.{IsPairing};
-ghost use Rattle.pm_match.specs.Waiting.{Opens, Meets, Passes, top_of};
+ghost use Rattle.pm_match.specs.steps.Waiting.{Opens, Meets, Passes, top_of};
 
 use pm_trees::{BUD, LEAF, Tree};
 use std::alloc::{AllocError, Global};

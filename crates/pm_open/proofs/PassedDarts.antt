@@ -12,7 +12,7 @@ use Rattle.pm_map.proofs.TwinLemmas.{one_edge, edge_of_twin}
 use Rattle.pm_open.specs.declared.walking.Fate.{Fate}
 use Rattle.pm_open.specs.declared.walking.Fate.TheVariants.{Unmet, Cut, Kept}
 use Rattle.pm_open.specs.declared.walking.Step.{Step}
-use Rattle.pm_open.specs.Passing.{IsPassed, cuts, keeps, meets_cut, meets_kept}
+use Rattle.pm_open.specs.steps.Passing.{IsPassed, cuts, keeps, meets_cut, meets_kept}
 use Rattle.pm_open.proofs.Walked.{is_up, first_of, is_cut, across, letter_of}
 use Rattle.pm_open.proofs.EdgeKinds.{first_is_twin, first_is_own, first_is, first_below, first_below_twin, cut_twin, cut_is_up, is_up_yes, is_up_no, across_cut, across_kept}
 use Rattle.pm_open.proofs.PlaceKinds.{letter_of_bud, letter_of_leaf, letter_of_open, letter_of_close}

@@ -17,7 +17,7 @@ use Rattle.pm_open.specs.declared.walking.Fate.TheVariants.{Unmet}
 use Rattle.pm_open.specs.declared.walking.Step.{Step}
 use Rattle.pm_open.specs.Distances.{AreFaceDistances}
 use Rattle.pm_open.specs.Opening.{IsOpening}
-use Rattle.pm_open.specs.Passing.{IsPassed, cuts, keeps, meets_cut, meets_kept}
+use Rattle.pm_open.specs.steps.Passing.{IsPassed, cuts, keeps, meets_cut, meets_kept}
 use Rattle.pm_open.proofs.Walked.{letter_of}
 use Rattle.pm_open.proofs.PassedDarts.{ArePassed, IsStep, stepped, next_inside, passed_more}
 use Rattle.pm_open.proofs.SomeOpening.{opening_of_walk, even_degrees}

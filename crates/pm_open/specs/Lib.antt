@@ -1,5 +1,4 @@
-pub mod DistanceSearch
 pub mod Distances
 pub mod Laws
 pub mod Opening
-pub mod Passing
+pub mod steps

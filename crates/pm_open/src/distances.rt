@@ -4,7 +4,7 @@ ghost use Rattle.pm_map.specs.Rotation.{IsRootedMap, structure_of};
 ghost use Rattle.pm_map.specs.Marks.{NoneMarked};
 ghost use Rattle.pm_map.specs.Search.{work_left};
 ghost use Rattle.pm_open.specs.Distances.{AreFaceDistances};
-ghost use Rattle.pm_open.specs.DistanceSearch.{FindsFace, IsFinding};
+ghost use Rattle.pm_open.specs.steps.DistanceSearch.{FindsFace, IsFinding};
 
 use pm_map::RootedMap;
 use std::alloc::{AllocError, Global};

@@ -6,7 +6,7 @@ ghost use Rattle.pm_map.specs.Rotation.{structure_of};
 ghost use Rattle.pm_map.specs.declared.admitted.Degrees.TheVariants.{EvenUpTo};
 ghost use Rattle.pm_open.specs.Distances.{AreFaceDistances};
 ghost use Rattle.pm_open.specs.Opening.{IsOpening};
-ghost use Rattle.pm_open.specs.Passing.{IsPassed};
+ghost use Rattle.pm_open.specs.steps.Passing.{IsPassed};
 
 use pm_map::RootedMap;
 use pm_trees::{BUD, CLOSE, LEAF, OPEN};

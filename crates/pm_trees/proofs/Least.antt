@@ -1,7 +1,8 @@
 -- The least place with a property among the places that were looked at.
 use Rattle.std.proofs.Common.{◌≡◌, ℕ, ◌≤◌, ◌⊎◌, ◌↔◌, inl, inr, min, Bool, true, false, cond, IsTrue, Option, Some, None, MatchOption, refl, ap, ◌∙◌, sym, subst, arith}
 use Rattle.std.proofs.lemmas.Bool.{cases_lt, false≢true}
-use Rattle.pm_trees.specs.First.{IsFirst, lesser, IsNoted}
+use Rattle.pm_trees.specs.First.{IsFirst}
+use Rattle.pm_trees.specs.steps.Noted.{lesser, IsNoted}
 
 -- nothing is found where no place that was looked at has the property; else the least of them
 pub record IsLeastOf (Bad Looked : ℕ → Type 0) (found : Option ℕ) : Type 0 where

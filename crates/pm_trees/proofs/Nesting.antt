@@ -103,22 +103,6 @@ other_below places other p b l =
       ]
     ]
 
--- the place across the place across is the place
-pub other_back : (places other : List ℕ) (p : ℕ) → IsBracketing places other → p < length places → slice_index other (slice_index other p) ≡ p
-other_back places other p b l = elim (cases_eq (slice_index places p) OPEN) [
-  | inl o ↦
-      let pair = b.of_open p o in
-      one_opener places (slice_index other (slice_index other p)) (slice_index other p) p (b.of_close (slice_index other p) pair.closes) pair
-  | inr not_open ↦ elim (cases_eq (slice_index places p) CLOSE) [
-    | inl c ↦
-        let pair = b.of_close p c in
-        one_closer places (slice_index other p) (slice_index other (slice_index other p)) p (b.of_open (slice_index other p) pair.opens) pair
-    | inr not_close ↦
-        let same = b.of_letter p l not_open not_close in
-        ap (slice_index other) same ∙ same
-  ]
-]
-
 -- so no two places have the same one across
 pub across_one : (places other : List ℕ) (a b : ℕ) → IsBracketing places other → a < length places → b < length places → slice_index other a ≡ slice_index other b → a ≡ b
-across_one places other a b bracketing l m same = sym (other_back places other a bracketing l) ∙ ap (slice_index other) same ∙ other_back places other b bracketing m
+across_one places other a b bracketing l m same = sym (other_twice places other a bracketing l) ∙ ap (slice_index other) same ∙ other_twice places other b bracketing m

@@ -8,7 +8,8 @@ use Rattle.pm_trees.specs.Word.{contour}
 use Rattle.pm_trees.specs.Node.{own_letters}
 use Rattle.pm_trees.specs.Blossoming.{IsBlossoming}
 use Rattle.pm_trees.specs.Pairs.{IsProfile, edges_of, pair_at}
-use Rattle.pm_trees.specs.Degrees.{AreCounts, AreListed, IsProfileOf, nodes_before, nodes_of}
+use Rattle.pm_trees.specs.Degrees.{AreListed, IsProfileOf, nodes_before, nodes_of}
+use Rattle.pm_trees.specs.steps.Counts.{AreCounts}
 use Rattle.pm_trees.specs.Replanting.{ProfileIsKept, ProfileIsUnique}
 use Rattle.pm_trees.proofs.CountedPairs.{AreCounted, sum_bounded, one_counted}
 use Rattle.pm_trees.proofs.Tally.{tally}

@@ -3,8 +3,10 @@ use Rattle.std.proofs.Common.{◌≡◌, ℕ, suc, ◌<◌, ◌⊎◌, ◌↔◌
 use Rattle.std.proofs.lemmas.Bool.{cases_lt, cases_Bool, false≢true}
 use Rattle.std.proofs.lemmas.List.{reverse-append, nil_from_length}
 use Rattle.pm_trees.specs.declared.letters.TheConstants.{OPEN, CLOSE}
-use Rattle.pm_trees.specs.First.{IsFirst, lesser}
-use Rattle.pm_trees.specs.Word.{contour, is_letter, IsMatched, IsInOrder, IsFault, IsForeign, IsUnmatched}
+use Rattle.pm_trees.specs.First.{IsFirst}
+use Rattle.pm_trees.specs.steps.Noted.{lesser}
+use Rattle.pm_trees.specs.Word.{contour, is_letter, IsMatched, IsInOrder, IsFault}
+use Rattle.pm_trees.specs.steps.Faults.{IsForeign, IsUnmatched}
 use Rattle.pm_trees.specs.Word.IsFault.{foreign}
 use Rattle.pm_trees.proofs.Own.{IsOther}
 use Rattle.pm_trees.proofs.Stack.{HasRead, has_start, has_open, has_close, has_other, matched_at_end, stray_here, unclosed_here, plant_is_other, letters_at, matched_no_fault}

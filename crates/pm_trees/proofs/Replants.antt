@@ -7,7 +7,8 @@ use Rattle.pm_trees.specs.declared.letters.TheConstants.{LEAF, OPEN, CLOSE}
 use Rattle.pm_trees.specs.Word.{contour, is_letter, IsMatched, IsInOrder}
 use Rattle.pm_trees.specs.Leaves.{IsLeafAt}
 use Rattle.pm_trees.specs.Blossoming.{IsBlossoming, leaves}
-use Rattle.pm_trees.specs.Replanted.{place_from, IsTurned, IsTurnedLetter, IsReplanted}
+use Rattle.pm_trees.specs.Replanted.{place_from, IsTurned, IsReplanted}
+use Rattle.pm_trees.specs.steps.TurnedLetter.{IsTurnedLetter}
 use Rattle.pm_trees.specs.Replanting.{IsAlike, leaf_after, EachLeafIsReplanted, ReplantedIsUnique, ReplantedIsAlike, LeavesAreTurned, ReplantingIsUndone}
 use Rattle.pm_trees.proofs.Tally.{tally, tally_is, tally_no}
 use Rattle.pm_trees.proofs.LeafCounts.{plant_is_first}

@@ -5,7 +5,8 @@ use Rattle.std.proofs.lemmas.List.{ext_get_or}
 use Rattle.std.proofs.Math.Nat.{add-mod-mod, mod-add-mod, add-mod_right}
 use Rattle.pm_trees.specs.declared.letters.TheConstants.{OPEN, CLOSE}
 use Rattle.pm_trees.specs.Word.{IsBracketPair, IsBracketing}
-use Rattle.pm_trees.specs.Replanted.{place_from, AreBrackets, IsTurned, IsTurnedLetter}
+use Rattle.pm_trees.specs.Replanted.{place_from, AreBrackets, IsTurned}
+use Rattle.pm_trees.specs.steps.TurnedLetter.{IsTurnedLetter}
 use Rattle.pm_trees.proofs.Own.{IsOther}
 use Rattle.pm_trees.proofs.Nesting.{one_closer, one_opener, other_below}
 

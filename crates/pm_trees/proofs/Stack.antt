@@ -2,7 +2,8 @@
 use Rattle.std.proofs.Common.{◌≡◌, ℕ, zero, suc, ◌+◌, ◌-◌, ◌≤◌, ◌<◌, ◌⊎◌, inl, inr, List, [], ◌∷◌, length, take, slice_index, All, IsTrue, refl, ap, ◌∙◌, sym, subst, arith, take_all, ◌==◌, eq-eqb, ne_eqb, cond}
 use Rattle.std.proofs.lemmas.Bool.{cases_lt, cases_eq}
 use Rattle.pm_trees.specs.declared.letters.TheConstants.{LEAF, OPEN, CLOSE}
-use Rattle.pm_trees.specs.Word.{count, contour, is_letter, IsMatched, IsBracketPair, IsInOrder, IsFault, IsUnmatched}
+use Rattle.pm_trees.specs.Word.{count, contour, is_letter, IsMatched, IsBracketPair, IsInOrder, IsFault}
+use Rattle.pm_trees.specs.steps.Faults.{IsUnmatched}
 use Rattle.pm_trees.specs.Word.IsFault.{foreign, stray, unclosed}
 use Rattle.pm_trees.proofs.Tally.{tally_is, tally_no}
 use Rattle.pm_trees.proofs.Own.{IsOther}

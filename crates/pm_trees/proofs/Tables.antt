@@ -8,7 +8,8 @@ use Rattle.pm_trees.specs.declared.letters.TheConstants.{BUD, OPEN, CLOSE}
 use Rattle.pm_trees.specs.Word.{count, contour, IsMatched}
 use Rattle.pm_trees.specs.Node.{IsNode, IsDegree, degree, own_letters}
 use Rattle.pm_trees.specs.Blossoming.{IsBlossoming}
-use Rattle.pm_trees.specs.Degrees.{has_degree, nodes_before, nodes_of, AreCounts}
+use Rattle.pm_trees.specs.Degrees.{has_degree, nodes_before, nodes_of}
+use Rattle.pm_trees.specs.steps.Counts.{AreCounts}
 use Rattle.pm_trees.proofs.Tally.{tally, tally_is}
 use Rattle.pm_trees.proofs.Own.{IsOther, own_length, own_length_is, own_length-nil, own_length_other_here, own_length_other_above, own_length_open_here, own_length_open_above, own_length_close_here, own_length_close_above}
 use Rattle.pm_trees.proofs.Levels.{seen, seen_is, seen_none, seen_yes, seen_no, inside}

@@ -6,7 +6,8 @@ use Rattle.pm_trees.specs.declared.letters.TheConstants.{BUD, OPEN, CLOSE}
 use Rattle.pm_limits.specs.declared.TheConstants.{MAX_DEGREE}
 use Rattle.pm_trees.specs.declared.nodes.OpenNode.{OpenNode}
 use Rattle.pm_trees.specs.declared.nodes.NodeFaults.{NodeFaults}
-use Rattle.pm_trees.specs.First.{IsFirst, IsNoted}
+use Rattle.pm_trees.specs.First.{IsFirst}
+use Rattle.pm_trees.specs.steps.Noted.{IsNoted}
 use Rattle.pm_trees.specs.Word.{count, contour, IsMatched, IsInOrder}
 use Rattle.pm_trees.specs.Node.{IsNode, IsDegree, BreaksDegree, BreaksBuds, degree, buds}
 use Rattle.pm_trees.specs.Blossoming.{HasBuds, HasDegrees}

@@ -19,11 +19,6 @@ nodes_before places d (suc n) = nodes_before places d n + (if has_degree places 
 abbrev pub nodes_of : List ℕ → ℕ → ℕ
 nodes_of word d = nodes_before (contour word) d (length (contour word))
 
--- a table of how many nodes have which degree
-pub record AreCounts (word counts : List ℕ) : Type 0 where
-  pub as_long : length counts ≡ suc MAX_DEGREE
-  pub each : (d : ℕ) → slice_index counts d ≡ nodes_of word d
-
 -- the pairs of a table: the numbers from 1 on that have a count other than 0, in rising order, with their counts
 pub record AreListed (counts : List ℕ) (pairs : List (ℕ × ℕ)) : Type 0 where
   pub rising : (k : ℕ) → k < length pairs → degree_before pairs k < (pair_at pairs k).0

@@ -11,3 +11,4 @@ pub mod Reading
 pub mod Replanted
 pub mod Replanting
 pub mod Word
+pub mod steps

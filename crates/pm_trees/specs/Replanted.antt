@@ -21,12 +21,6 @@ pub record IsTurned (places : List ℕ) (start : ℕ) (turned : List ℕ) : Type
       → slice_index turned p ≡ slice_index places (place_from places start p)
   pub brackets : (p q : ℕ) → p < q → q < length places → AreBrackets places (place_from places start p) (place_from places start q) → IsBracketPair turned p q
 
--- what that says of the letter at one place
-pub record IsTurnedLetter (places : List ℕ) (start p letter : ℕ) : Type 0 where
-  pub kept : slice_index places (place_from places start p) ≢ OPEN → slice_index places (place_from places start p) ≢ CLOSE → letter ≡ slice_index places (place_from places start p)
-  pub opens : (q : ℕ) → p < q → q < length places → AreBrackets places (place_from places start p) (place_from places start q) → letter ≡ OPEN
-  pub closes : (q : ℕ) → q < p → AreBrackets places (place_from places start p) (place_from places start q) → letter ≡ CLOSE
-
 -- the word of the tree planted at the leaf of this number
 pub record IsReplanted (word : List ℕ) (leaf : ℕ) (replanted : List ℕ) : Type 0 where
   pub start : ℕ

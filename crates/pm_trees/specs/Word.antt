@@ -52,13 +52,3 @@ pub data IsFault (places : List ℕ) (place : ℕ) : Type 0 where
   -- the last bracket that isn't closed
   unclosed : slice_index places place ≡ OPEN → ((q : ℕ) → IsBracketPair places place q → ⊥)
       → ((p : ℕ) → place < p → slice_index places p ≡ OPEN → (q : ℕ) × IsBracketPair places p q) → IsFault places place
-
--- a letter that is none of the four
-pub record IsForeign (places : List ℕ) (place : ℕ) : Type 0 where
-  pub within : place < length places
-  pub breaks : IsTrue (is_letter (slice_index places place)) → ⊥
-
--- the least fault at a letter of the four, so at a bracket
-pub record IsUnmatched (places : List ℕ) (place : ℕ) : Type 0 where
-  pub here : IsFault places place
-  pub least : (k : ℕ) → IsFault places k → (k < length places → IsTrue (is_letter (slice_index places k))) → place ≤ k

@@ -1,7 +1,8 @@
 //! The profile of a tree: how many of its nodes have which degree.
 ghost use Rattle.std.specs.Prelude.{◌<◌, ◌^◌, IfOk, length};
 ghost use Rattle.pm_trees.specs.Blossoming.{IsBlossoming};
-ghost use Rattle.pm_trees.specs.Degrees.{AreCounts, AreListed, IsProfileOf};
+ghost use Rattle.pm_trees.specs.Degrees.{AreListed, IsProfileOf};
+ghost use Rattle.pm_trees.specs.steps.Counts.{AreCounts};
 
 use crate::letters::{CLOSE, OPEN};
 use crate::profile::Profile;

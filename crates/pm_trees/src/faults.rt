@@ -1,7 +1,8 @@
 //! What can be wrong with the text of a word.
 ghost use Rattle.std.specs.Prelude.{◌≡◌, ◌↔◌, ◌<◌, ◌^◌, ℕ, All, IfOk, IsTrue, MatchOption, length};
 ghost use Rattle.pm_trees.specs.First.{IsFirst};
-ghost use Rattle.pm_trees.specs.Word.{IsFault, IsForeign, IsInOrder, IsMatched, IsUnmatched, contour, is_letter};
+ghost use Rattle.pm_trees.specs.Word.{IsFault, IsInOrder, IsMatched, contour, is_letter};
+ghost use Rattle.pm_trees.specs.steps.Faults.{IsForeign, IsUnmatched};
 
 use crate::letters::{BUD, CLOSE, LEAF, OPEN};
 use std::alloc::{AllocError, Global};
@@ -54,7 +55,7 @@ pub(crate) fn first_fault(alloc: Global, word: &[u8]) -> Result<Option<u32>, All
     Ok(lesser(first_foreign(word), unmatched))
 }
 
-ghost use Rattle.pm_trees.specs.First.{lesser};
+ghost use Rattle.pm_trees.specs.steps.Noted.{lesser};
 
 /// The lesser of two places, of which each may be missing.
 pub(crate) fn lesser(first: Option<u32>, second: Option<u32>) -> Option<u32>

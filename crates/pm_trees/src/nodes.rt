@@ -1,7 +1,8 @@
 //! The degrees and the buds of the nodes of a word whose text is in order.
 ghost use Rattle.std.specs.Prelude.{◌≡◌, ◌+◌, ◌*◌, ◌<◌, ◌^◌, ◌↔◌, ◌==◌, if◌then◌else◌, suc, ℕ, IfOk, IsTrue, MatchOption, length, slice_index};
 ghost use Rattle.pm_trees.specs.Blossoming.{HasBuds, HasDegrees};
-ghost use Rattle.pm_trees.specs.First.{IsFirst, IsNoted, lesser};
+ghost use Rattle.pm_trees.specs.First.{IsFirst};
+ghost use Rattle.pm_trees.specs.steps.Noted.{IsNoted, lesser};
 ghost use Rattle.pm_trees.specs.Node.{BreaksBuds, BreaksDegree, IsDegree};
 ghost use Rattle.pm_trees.specs.Word.{IsInOrder, contour};
 

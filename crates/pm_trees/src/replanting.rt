@@ -1,7 +1,8 @@
 //! Replanting: the same plane tree, planted at another of its leaves.
 ghost use Rattle.std.specs.Prelude.{◌≡◌, ◌<◌, ◌≤◌, ◌^◌, IfOk, length, slice_index};
 ghost use Rattle.pm_trees.specs.Blossoming.{leaves};
-ghost use Rattle.pm_trees.specs.Replanted.{IsReplanted, IsTurned, IsTurnedLetter};
+ghost use Rattle.pm_trees.specs.Replanted.{IsReplanted, IsTurned};
+ghost use Rattle.pm_trees.specs.steps.TurnedLetter.{IsTurnedLetter};
 ghost use Rattle.pm_trees.specs.Replanting.{IsAlike};
 ghost use Rattle.pm_trees.specs.Word.{IsBracketing, IsInOrder, contour};
 

@@ -4,7 +4,7 @@ use Rattle.pm_trees.specs.Word.{contour, IsBracketing}
 use Rattle.pm_close.specs.Twinning.{IsTwinList}
 use Rattle.pm_close.proofs.ClosedMap.{is_made, twin_list_twins, darts_permute, across_below, made_is_closed, made_levels}
 use Rattle.pm_close.proofs.PlaneMap.{rooted_closure}
-use Rattle.pm_close.specs.Levelling.{IsLow, AreLevelsAt}
+use Rattle.pm_close.specs.steps.Levelling.{IsLow, AreLevelsAt}
 use Rattle.pm_close.proofs.LowWords.{low_word}
 use Rattle.pm_close.proofs.closing.close_tree.Goals as goal
 

@@ -1,5 +1,5 @@
 use Rattle.pm_trees.specs.Word.{contour}
-use Rattle.pm_close.specs.Joining.{IsJoined}
+use Rattle.pm_close.specs.steps.Joining.{IsJoined}
 use Rattle.pm_close.proofs.joining.twins_of.Given as goal
 
 abbrev pub invariant-loop-pair : goal.invariant-loop-pair

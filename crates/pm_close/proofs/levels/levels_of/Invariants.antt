@@ -1,4 +1,4 @@
-use Rattle.pm_close.specs.Levelling.{IsLevelled}
+use Rattle.pm_close.specs.steps.Levelling.{IsLevelled}
 use Rattle.pm_close.proofs.levels.levels_of.Given as goal
 
 abbrev pub invariant-loop-index : goal.invariant-loop-index

@@ -1,7 +1,7 @@
 -- What was popped is the index at the top of the stack.
 use Rattle.std.proofs.Common.{◌≡◌, ℕ, ◌-◌, ◌<◌, List, [], ◌∷◌, ◌++◌, length, get_or, take, sym, ap, ◌∙◌, subst, arith, set}
 use Rattle.std.proofs.lemmas.List.{get_or_read, get_or_push, length_push, take_at}
-use Rattle.pm_match.specs.Waiting.{bud_at, with_leaf, top_of}
+use Rattle.pm_match.specs.steps.Waiting.{bud_at, with_leaf, top_of}
 use Rattle.pm_match.proofs.pairing.meet.Goals as goal
 
 record IsTop (stack rest : List ℕ) (index : ℕ) : Type 0 where

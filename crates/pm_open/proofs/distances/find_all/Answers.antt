@@ -1,5 +1,5 @@
 use Rattle.std.proofs.Common.{subst, arith}
-use Rattle.pm_open.specs.DistanceSearch.{FindsFace}
+use Rattle.pm_open.specs.steps.DistanceSearch.{FindsFace}
 use Rattle.pm_open.proofs.FaceSearch.{IsFinding-begins, IsFinding-all}
 use Rattle.pm_open.proofs.distances.find_all.Goals as goal
 

@@ -1,6 +1,6 @@
 use Rattle.std.proofs.Common.{not, false, length, get_or}
 use Rattle.pm_perm.specs.Count.{count_below}
-use Rattle.pm_open.specs.DistanceSearch.{WritesFace}
+use Rattle.pm_open.specs.steps.DistanceSearch.{WritesFace}
 use Rattle.pm_open.proofs.distances.find_face.Given as goal
 
 abbrev pub invariant-walk : goal.invariant-walk

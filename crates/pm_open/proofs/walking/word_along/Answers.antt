@@ -2,7 +2,7 @@ use Rattle.std.proofs.Common.{◌≡◌, ℕ, ◌/◌, ◌++◌, List, length, t
 use Rattle.std.proofs.Math.Seq.{take-append_seam}
 use Rattle.pm_open.specs.declared.walking.Fate.{Fate}
 use Rattle.pm_open.specs.declared.walking.Fate.TheVariants.{Unmet}
-use Rattle.pm_open.specs.Passing.{IsPassed}
+use Rattle.pm_open.specs.steps.Passing.{IsPassed}
 use Rattle.pm_open.proofs.WalkLoop.{IsAlong, measured, along_start, along_more, along_whole}
 use Rattle.pm_open.proofs.walking.word_along.Goals as goal
 

@@ -1,0 +1,2 @@
+pub mod DistanceSearch
+pub mod Passing
