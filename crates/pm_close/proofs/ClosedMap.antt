@@ -7,13 +7,15 @@ use Rattle.pm_trees.proofs.Nesting.{other_below}
 use Rattle.pm_match.specs.Pairing.{Pairs, IsPairing}
 use Rattle.pm_map.specs.Structure.{CarriesTo}
 use Rattle.pm_map.specs.Rotation.{structure_of}
-use Rattle.pm_close.specs.Closure.{IsClosed, dart_of}
+use Rattle.pm_close.specs.Closure.{IsClosed}
+use Rattle.pm_map.specs.EdgeNumbers.{dart_of}
 use Rattle.pm_close.specs.Level.{IsLevel, AreLevels}
 use Rattle.pm_close.specs.steps.Levelling.{AreLevelsAt}
-use Rattle.pm_close.specs.Twinning.{IsTwinning, IsTwinList}
+use Rattle.pm_close.specs.steps.Twins.{IsTwinList}
+use Rattle.pm_map.specs.EdgeNumbers.{IsTwinning}
 use Rattle.pm_close.proofs.TwinLemmas.{twins_apart}
 use Rattle.pm_close.proofs.ClosureLemmas.{IsLaidOut, laid_out, laid_out_closes, laid_out_twins, bracketing_across}
-use Rattle.pm_close.proofs.DartLemmas.{dart_of_permutes, dart_of-twin, dart_of-root}
+use Rattle.pm_map.proofs.NumberedEdges.{dart_of_permutes, dart_of-twin, dart_of-root}
 use Rattle.pm_close.proofs.JoiningSteps.{one_partner}
 
 -- the lists that closing has made, and how they hang together

@@ -7,7 +7,7 @@ use Rattle.pm_trees.specs.Word.{IsBracketing}
 use Rattle.pm_map.specs.Structure.{Structure, IsStructure, IsConnected}
 use Rattle.pm_close.specs.Closure.{IsAcross, from_open, from_close, from_letter, AreTwins, edge_down, edge_up, IsClosure}
 use Rattle.pm_close.proofs.TwinLemmas.{HasOnePartner, within, twin_unique, twins_back, twins_apart, twin_within}
-use Rattle.pm_close.specs.Twinning.{IsTwinning}
+use Rattle.pm_map.specs.EdgeNumbers.{IsTwinning}
 
 -- the place across is one place
 pub across_unique : (places : List ℕ) (p q r : ℕ) → HasOnePartner places → IsAcross places p q → IsAcross places p r → q ≡ r

@@ -82,7 +82,7 @@ vertex_size s d vertex is =
 -- a vertex has as many darts as its node has entries, and one more
 pub vertex_length : (places : List ℕ) (s : Structure) (node : ℕ) (vertex : List ℕ) → IsNodeVertex places s node vertex → length vertex ≡ degree places node
 vertex_length places s node vertex v =
-    omega (arith, ap length v.entries_are, length-map (drop 1 vertex) (slice_index places), dropped vertex (vertex_begins s v.head vertex v.is_vertex).0) where
+    omega (arith, ap length v.letters_are, length-map (drop 1 vertex) (slice_index places), dropped vertex (vertex_begins s v.head vertex v.is_vertex).0) where
       dropped : (xs : List ℕ) → 0 < length xs → suc (length (drop 1 xs)) ≡ length xs
       dropped [] l = absurd (omega arith)
       dropped (x ∷ xs) l = refl
@@ -183,9 +183,9 @@ module _ (word : List ℕ) (order : IsInOrder word) (other : List ℕ) (bracketi
         let closes : slice_index (contour word) (slice_index other b) ≡ CLOSE = (bracketing.of_open b opened).closes in
         let inside : k < length (drop 1 vertex) = tail_long vertex k l in
         let letter : slice_index (entries (contour word) a) k ≡ slice_index (contour word) (slice_index other b) =
-        ap (λ (xs : List ℕ). slice_index xs k) (sym v.entries_are) ∙ get_or-map (slice_index (contour word)) (drop 1 vertex) k 0 0 inside
+        ap (λ (xs : List ℕ). slice_index xs k) (sym v.letters_are) ∙ get_or-map (slice_index (contour word)) (drop 1 vertex) k 0 0 inside
         ∙ ap (slice_index (contour word)) (in_tail vertex k ∙ here) in
-        let long : k < length (entries (contour word) a) = omega (arith, inside, ap length v.entries_are, length-map (drop 1 vertex) (slice_index (contour word))) in
+        let long : k < length (entries (contour word) a) = omega (arith, inside, ap length v.letters_are, length-map (drop 1 vertex) (slice_index (contour word))) in
         absurd (never a k long (letter ∙ closes)) where
           tail_long : (vertex : List ℕ) (k : ℕ) → suc k < length vertex → k < length (drop 1 vertex)
           tail_long [] k l = absurd (omega arith)

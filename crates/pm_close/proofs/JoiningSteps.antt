@@ -12,7 +12,7 @@ use Rattle.pm_match.specs.Pair.{IsPair, IsFree}
 use Rattle.pm_match.specs.Pairing.{Pairs, IsPairing}
 use Rattle.pm_match.proofs.Partners.{third_free}
 use Rattle.pm_close.specs.Closure.{AreTwins, edge_down, edge_up, pair_bud, pair_leaf, free_leaves}
-use Rattle.pm_close.specs.Twinning.{IsTwinList}
+use Rattle.pm_close.specs.steps.Twins.{IsTwinList}
 use Rattle.pm_close.specs.steps.Joining.{IsApart, IsJoined}
 use Rattle.pm_close.proofs.TwinLemmas.{HasOnePartner, within}
 

@@ -24,7 +24,8 @@ use Rattle.pm_map.proofs.CarriedSizes.{cycle_carried, cycle_back, size_carried}
 use Rattle.pm_map.proofs.CycleSizes.{IsCycleSize-along}
 use Rattle.pm_map.proofs.DegreeCounts.{degree_counts_darts}
 use Rattle.pm_map.proofs.DegreeRules.{cycle_size_is_unique}
-use Rattle.pm_close.specs.Closure.{IsClosed, dart_of}
+use Rattle.pm_close.specs.Closure.{IsClosed}
+use Rattle.pm_map.specs.EdgeNumbers.{dart_of}
 use Rattle.pm_close.specs.NodeDegrees.{HasNodeDegrees, DegreesAreKept}
 use Rattle.pm_close.proofs.ClosureLemmas.{bracketing_across}
 use Rattle.pm_close.proofs.Heads.{head_size, some_head, one_head}

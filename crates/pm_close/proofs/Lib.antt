@@ -1,14 +1,13 @@
 pub mod ClosedMap
 pub mod ClosureLemmas
 pub mod ClosureStructure
-pub mod DartLemmas
 pub mod Heads
 pub mod JoiningSteps
 pub mod KeptDegrees
 pub mod LevelSteps
 pub mod LowWords
 pub mod NodeVertices
-pub mod NumberingSteps
+pub mod RotationSteps
 pub mod OneClosure
 pub mod PlaneClosure
 pub mod PlaneMap

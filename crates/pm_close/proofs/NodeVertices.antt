@@ -8,14 +8,14 @@ use Rattle.pm_trees.specs.declared.letters.TheConstants.{LEAF, OPEN, CLOSE}
 use Rattle.pm_trees.specs.Word.{IsBracketPair, IsBracketing, contour}
 use Rattle.pm_trees.specs.Node.{own_letters}
 use Rattle.pm_trees.proofs.Bracketed.{bracketing_exists}
-use Rattle.pm_trees.proofs.Levels.{seen, seen_yes, seen_no, IsEven, even_start, even_other, even_pair, even_from_pair, pair_from_even}
+use Rattle.pm_trees.proofs.Levels.{seen, seen_yes, seen_no, IsEven, even_start, even_other, even_pair, even_from_pair, even_from_matched, matched_from_even, pair_from_even}
 use Rattle.pm_trees.proofs.Nesting.{one_closer, one_opener}
 use Rattle.pm_trees.proofs.RingPlaces.{mod_stays}
 use Rattle.pm_trees.proofs.Own.{IsOther, other_here, other_above, open_above, close_above}
 use Rattle.pm_map.specs.Structure.{Structure}
 use Rattle.pm_map.specs.Meeting.{IsVertexFrom}
 use Rattle.pm_close.specs.Closure.{IsAcross, from_open, from_close, from_letter, IsClosure}
-use Rattle.pm_close.specs.Nodes.{IsNodeVertex, NodesAreVertices}
+use Rattle.pm_close.specs.Nodes.{IsEntry, AreEntries, IsNodeVertex, NodesAreVertices}
 use Rattle.pm_close.proofs.ClosureLemmas.{bracketing_across, across_within, succ_last}
 
 -- a letter that is no bracket, or a bracket
@@ -134,15 +134,72 @@ module _ (places : List ℕ) (across : ℕ → ℕ) (is_across : (p : ℕ) → p
   entries_end _ _ _ (all_met p why) = why
   entries_end _ _ _ (one_more p es end l not_close rest) = entries_end (suc (across p)) es end rest
 
+  -- where brackets match up to a place that closes nothing, they match up to the one behind the place across
+  even_on : (a p : ℕ) → p < length places → (slice_index places p ≡ CLOSE → ⊥) → a < p → IsEven places a p → IsEven places a (suc (across p))
+  even_on a p l not_close less even = elim (is_across p l) [
+    | from_open h ↦ even_pair places a p (across p) less h.before h.opens h.closes even (even_from_pair places p (across p) h)
+    | from_close h ↦ absurd (not_close h.closes)
+    | from_letter not_open _ e ↦ subst (λ (k : ℕ). IsEven places a (suc k)) e (even_other places a p less (record { not_open = not_open; not_close = not_close }) even)
+  ]
+
   -- brackets match from the level's beginning to its end
   entries_even : (a p : ℕ) (es : List ℕ) (end : ℕ) → Entries places across p es end → a < p → IsEven places a p → IsEven places a end
   entries_even a _ _ _ (all_met p why) l even = even
   entries_even a _ _ _ (one_more p es end l not_close rest) less even =
-      entries_even a (suc (across p)) es end rest (omega (arith, onward p l not_close)) (elim (is_across p l) [
-        | from_open h ↦ even_pair places a p (across p) less h.before h.opens h.closes even (even_from_pair places p (across p) h)
-        | from_close h ↦ absurd (not_close h.closes)
-        | from_letter not_open _ e ↦ subst (λ (k : ℕ). IsEven places a (suc k)) e (even_other places a p less (record { not_open = not_open; not_close = not_close }) even)
-      ])
+      entries_even a (suc (across p)) es end rest (omega (arith, onward p l not_close)) (even_on a p l not_close less even)
+
+  -- they are entries of the node at whose place the level begins
+  entries_each : (a p : ℕ) (es : List ℕ) (end : ℕ) → Entries places across p es end → a < p → IsEven places a p → (k : ℕ) → k < length es → IsEntry places a (slice_index es k)
+  entries_each a _ _ _ (all_met p why) less even k m = absurd (omega arith)
+  entries_each a _ _ _ (one_more p es end l not_close rest) less even zero m = record { after = less; within = l; matched = matched_from_even places a p less even; no_close = not_close }
+  entries_each a _ _ _ (one_more p es end l not_close rest) less even (suc k) m =
+      entries_each a (suc (across p)) es end rest (omega (arith, onward p l not_close)) (even_on a p l not_close less even) k (omega arith)
+
+  -- no entry of a level stands behind its end
+  past_close : (a p q : ℕ) → slice_index places p ≡ CLOSE → a < p → IsEven places a p → p ≤ q → IsEntry places a q → ⊥
+  past_close a p q close less even le is = elim (cases_eq p q) [
+    | inl same ↦ is.no_close (ap (slice_index places) (sym same) ∙ close)
+    | inr ne ↦
+        let whole = even_from_matched places a q is.after is.matched in
+        let up = seen_yes CLOSE places p (lit< tt) close in
+        let same = seen_no OPEN places p (λ o. two o) in
+        omega (arith, whole.below (suc p) (omega arith) (omega arith), up, same, even.equal)
+  ] where
+    two : slice_index places p ≡ OPEN → ⊥
+    two o = omega arith
+
+  -- none stands between two brackets of the level
+  past_pair : (a p r q : ℕ) → IsBracketPair places p r → a < p → IsEven places a p → p < q → IsEntry places a q → r < q
+  past_pair a p r q pair less even l is = elim (cases_lt r q) [
+    | inl h ↦ h
+    | inr h ↦
+        let whole = even_from_matched places a q is.after is.matched in
+        let inner = even_from_pair places p r pair in
+        let up = seen_yes OPEN places p (lit< tt) pair.opens in
+        let same = seen_no CLOSE places p (λ c. two pair.opens c) in
+        absurd (omega (arith, whole.equal, even.equal, up, same, inner.below q (omega arith) (omega arith)))
+  ] where
+    two : slice_index places p ≡ OPEN → slice_index places p ≡ CLOSE → ⊥
+    two o c = omega arith
+
+  -- and each is met
+  entries_all : (a p : ℕ) (es : List ℕ) (end : ℕ) → Entries places across p es end → a < p → IsEven places a p → (q : ℕ) → p ≤ q → IsEntry places a q
+      → (k : ℕ) × (k < length es) × (slice_index es k ≡ q)
+  entries_all a _ _ _ (all_met p why) less even q le is = elim why [
+    | inl e ↦ absurd (let inside = is.within in omega arith)
+    | inr c ↦ absurd (past_close a p q c less even le is)
+  ]
+  entries_all a _ _ _ (one_more p es end l not_close rest) less even q le is = elim (cases_eq p q) [
+    | inl same ↦ (0, omega arith, same)
+    | inr ne ↦
+        let beyond : across p < q = elim (is_across p l) [
+          | from_open h ↦ past_pair a p (across p) q h less even (omega arith) is
+          | from_close h ↦ absurd (not_close h.closes)
+          | from_letter _ _ e ↦ omega arith
+        ] in
+        let later = entries_all a (suc (across p)) es end rest (omega (arith, onward p l not_close)) (even_on a p l not_close less even) q beyond is in
+        (suc later.0, (let m = later.1 in omega arith), later.2)
+  ]
 
   -- each leads to the next, and the last to the end
   entries_go : (p : ℕ) (es : List ℕ) (end : ℕ) → Entries places across p es end → (x : ℕ) → suc (across x) ≡ p
@@ -173,6 +230,22 @@ module _ (places : List ℕ) (across : ℕ → ℕ) (is_across : (p : ℕ) → p
         inside_more p es end l up reach later zero m = record { low = omega arith; high = omega arith; inside = l }
         inside_more p es end l up reach later (suc k) m =
             let h = later k (omega arith) in record { low = omega (arith, h.low); high = h.high; inside = h.inside }
+
+  -- they rise
+  entries_rise : (p : ℕ) (es : List ℕ) (end : ℕ) → Entries places across p es end → (j k : ℕ) → j < k → k < length es → slice_index es j < slice_index es k
+  entries_rise _ _ _ (all_met p why) j k less m = absurd (omega arith)
+  entries_rise _ _ _ (one_more p es end l not_close rest) j zero less m = absurd (omega arith)
+  entries_rise _ _ _ (one_more p es end l not_close rest) zero (suc k) less m =
+      let later = ((entries_inside (suc (across p)) es end rest).1 k (omega arith)).low in omega (arith, later, onward p l not_close)
+  entries_rise _ _ _ (one_more p es end l not_close rest) (suc j) (suc k) less m = entries_rise (suc (across p)) es end rest j k (omega arith) (omega arith)
+
+  -- so the run from behind a node's place has its entries
+  entries_of : (a : ℕ) (es : List ℕ) (end : ℕ) → Entries places across (suc a) es end → AreEntries places a es
+  entries_of a es end run = record {
+    each = entries_each a (suc a) es end run (omega arith) (even_start places a);
+    rising = entries_rise (suc a) es end run;
+    all = λ q is. entries_all a (suc a) es end run (omega arith) (even_start places a) q (let b = is.after in omega arith) is;
+  }
 
   -- from a head, around its node, and back
   vertex_from : (closure : Structure) → IsClosure places closure → (head p : ℕ) (es : List ℕ) (end : ℕ) → head < length places → suc (across head) ≡ p → end % length places ≡ head
@@ -265,7 +338,8 @@ node_vertices word closure order is node named =
               is_head = inl (root, refl);
               is_vertex = vertex_from (contour word) (slice_index other) (around other word bracketing) closure is 0 1 run.0 run.1.0 (omega arith) (ap suc alone)
                   (ap (λ (k : ℕ). k % length (contour word)) last ∙ succ_last (length (contour word)) (omega arith)) (λ k l e. not_zero (slice_index run.0 k) (inside.1 k l).low e) run.1.1;
-              entries_are = entries_letters (contour word) (slice_index other) (around other word bracketing) 1 run.0 run.1.0 run.1.1
+              entries_are = subst (λ (n : ℕ). AreEntries (contour word) n run.0) (sym root) (entries_of (contour word) (slice_index other) (around other word bracketing) 0 run.0 run.1.0 run.1.1);
+              letters_are = entries_letters (contour word) (slice_index other) (around other word bracketing) 1 run.0 run.1.0 run.1.1
                   ∙ ap (λ (n : ℕ). own_letters 0 (drop (suc n) (contour word))) (sym root);
             },
           ) where
@@ -296,7 +370,8 @@ node_vertices word closure order is node named =
               is_vertex = vertex_from (contour word) (slice_index other) (around other word bracketing) closure is (slice_index other node) (suc node) run.0 run.1.0 inside_q (ap suc back)
                   (ap (λ (k : ℕ). k % length (contour word)) last ∙ mod_stays (slice_index other node) (length (contour word)) inside_q)
                   (λ k l e. not_end (slice_index run.0 k) run.1.0 (slice_index other node) (inside.1 k l).high last e) run.1.1;
-              entries_are = entries_letters (contour word) (slice_index other) (around other word bracketing) (suc node) run.0 run.1.0 run.1.1;
+              entries_are = entries_of (contour word) (slice_index other) (around other word bracketing) node run.0 run.1.0 run.1.1;
+              letters_are = entries_letters (contour word) (slice_index other) (around other word bracketing) (suc node) run.0 run.1.0 run.1.1;
             },
           ) where
             close_inside : (places : List ℕ) (p : ℕ) → slice_index places p ≡ CLOSE → p < length places

@@ -1,33 +1,19 @@
 -- A contour has one closure.
-use Rattle.std.proofs.Common.{◌≡◌, ℕ, suc, ◌*◌, ◌<◌, ◌≤◌, cond, ltb, List, length, sym, ◌∙◌, ap, arith}
+use Rattle.std.proofs.Common.{◌≡◌, ℕ, ◌<◌, List, length, sym, ◌∙◌, ap, arith}
 use Rattle.std.specs.Prelude.{slice_index}
 use Rattle.std.proofs.lemmas.Grind.{same_number_lists}
-use Rattle.pm_perm.proofs.Counts.{count_below-same}
 use Rattle.pm_perm.proofs.Permutations.{IsReached, reached}
 use Rattle.pm_map.specs.Structure.{Structure, Same}
 use Rattle.pm_map.specs.Rotation.{RotationSystem}
-use Rattle.pm_close.specs.Closure.{IsAcross, IsClosure, IsClosed, edges_before, dart_of}
+use Rattle.pm_close.specs.Closure.{IsAcross, IsClosure, IsClosed}
+use Rattle.pm_map.specs.EdgeNumbers.{dart_of}
+use Rattle.pm_map.proofs.NumberedEdges.{dart_of-same}
 use Rattle.pm_close.proofs.TwinLemmas.{HasOnePartner, twin_unique, twin_within}
 
 -- each place has a place across
 pub record HasAcross (places : List ℕ) : Type 0 where
   pub one : HasOnePartner places
   pub some : (p : ℕ) → p < length places → (q : ℕ) × IsAcross places p q
-
--- twins that agree below n number the places below n alike
-edges_before_same : (t u : ℕ → ℕ) (n p : ℕ) → ((k : ℕ) → k < n → t k ≡ u k) → p ≤ n → edges_before t p ≡ edges_before u p
-edges_before_same t u n p same l = count_below-same (λ k. ltb k (t k)) (λ k. ltb k (u k)) p (λ k m. ap (ltb k) (same k (omega arith)))
-
-dart_of_same : (t u : ℕ → ℕ) (n p : ℕ) → ((k : ℕ) → k < n → t k ≡ u k) → p < n → t p < n → dart_of t p ≡ dart_of u p
-dart_of_same t u n p same l m =
-    let here : edges_before t p ≡ edges_before u p = edges_before_same t u n p same (omega arith) in
-    let there : edges_before t (t p) ≡ edges_before u (u p) = edges_before_same t u n (t p) same (omega arith) ∙ ap (edges_before u) (same p l) in
-    joined t u p (same p l) here there where
-      joined : (t u : ℕ → ℕ) (p : ℕ) → t p ≡ u p → edges_before t p ≡ edges_before u p → edges_before t (t p) ≡ edges_before u (u p) → dart_of t p ≡ dart_of u p
-      joined t u p e here there =
-          ap (λ (q : ℕ). cond (ltb p q) (2 * edges_before t p) (suc (2 * edges_before t (t p)))) e
-          ∙ ap (λ (x : ℕ). cond (ltb p (u p)) (2 * x) (suc (2 * edges_before t (t p)))) here
-          ∙ ap (λ (x : ℕ). cond (ltb p (u p)) (2 * edges_before u p) (suc (2 * x))) there
 
 -- the two closures on places have the same twins, and the same places next
 closures_twins : (places : List ℕ) (a b : Structure) → HasAcross places → IsClosure places a → IsClosure places b → (p : ℕ) → p < length places → a.twin p ≡ b.twin p
@@ -64,7 +50,7 @@ closed_unique places a b h some one two =
     let t = two.closure in
     let twins : (p : ℕ) → p < length places → s.twin p ≡ t.twin p = closures_twins places s t h one.is_closure two.is_closure in
     let darts : (p : ℕ) → p < length places → dart_of s.twin p ≡ dart_of t.twin p = λ p l.
-    dart_of_same s.twin t.twin (length places) p twins l (twin_within places p (s.twin p) (one.is_closure.twins p l)) in
+    dart_of-same s.twin t.twin (length places) p twins l (twin_within places p (s.twin p) (one.is_closure.twins p l)) in
     same_maps a b
     (same_number_lists a.sigma b.sigma (long places a b one two) (λ d l. entries places a b h one two twins darts d l))
     (roots places a b some one two darts) where

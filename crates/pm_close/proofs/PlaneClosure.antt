@@ -19,10 +19,10 @@ use Rattle.pm_match.proofs.Straight.{IsStraight, straight, bud_inside, leaf_insi
 use Rattle.pm_map.specs.Structure.{Structure, face_next}
 use Rattle.pm_map.specs.Plane.{HasEulerTwo}
 use Rattle.pm_close.specs.Closure.{IsClosure, AreTwins, edge_down, edge_up, pair_bud, pair_leaf, free_leaves}
-use Rattle.pm_close.specs.Twinning.{IsTwinning}
+use Rattle.pm_map.specs.EdgeNumbers.{IsTwinning}
 use Rattle.pm_close.proofs.TwinLemmas.{HasOnePartner, twin_within}
 use Rattle.pm_close.proofs.ClosureLemmas.{laid_out_twins, bracketing_across, succ_last, succ_inside}
-use Rattle.pm_close.proofs.DartLemmas.{firsts_is, firsts_half}
+use Rattle.pm_map.proofs.NumberedEdges.{firsts_is, firsts_half}
 use Rattle.pm_close.proofs.RootedClosure.{has_across}
 
 -- how a place and its twin stand to the place across: the twin of a bracket is across, and a letter is across itself

@@ -6,10 +6,11 @@ use Rattle.pm_trees.proofs.Bracketed.{bracketing_exists}
 use Rattle.pm_map.specs.Structure.{CarriesTo}
 use Rattle.pm_map.specs.Rotation.{RotationSystem, structure_of}
 use Rattle.pm_map.proofs.CarriedStructure.{structure_carried, connected_carried, euler_carried}
-use Rattle.pm_close.specs.Closure.{IsClosed, dart_of}
+use Rattle.pm_close.specs.Closure.{IsClosed}
+use Rattle.pm_map.specs.EdgeNumbers.{dart_of}
 use Rattle.pm_close.specs.Laws.{ClosureIsRooted}
 use Rattle.pm_close.proofs.ClosureLemmas.{IsLaidOut, laid_out, laid_out_closes, laid_out_twins, laid_out_structure, laid_out_connected, bracketing_across}
-use Rattle.pm_close.proofs.DartLemmas.{firsts_half}
+use Rattle.pm_map.proofs.NumberedEdges.{firsts_half}
 use Rattle.pm_close.proofs.PlaneClosure.{closure_euler}
 use Rattle.pm_close.proofs.RootedClosure.{has_across}
 

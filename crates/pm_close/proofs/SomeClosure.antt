@@ -15,10 +15,11 @@ use Rattle.pm_match.specs.Pair.{IsFree}
 use Rattle.pm_match.specs.Pairing.{Pairs, IsPairing}
 use Rattle.pm_match.proofs.Paired.{pairing_exists}
 use Rattle.pm_map.specs.Rotation.{RotationSystem}
-use Rattle.pm_close.specs.Closure.{AreTwins, edge_down, edge_up, pair_bud, pair_leaf, free_leaves, IsClosed, dart_of}
+use Rattle.pm_close.specs.Closure.{AreTwins, edge_down, edge_up, pair_bud, pair_leaf, free_leaves, IsClosed}
+use Rattle.pm_map.specs.EdgeNumbers.{dart_of}
 use Rattle.pm_close.specs.Laws.{EachTreeCloses}
 use Rattle.pm_close.proofs.ClosureLemmas.{IsLaidOut, laid_out_twins, bracketing_across}
-use Rattle.pm_close.proofs.DartLemmas.{dart_of_permutes}
+use Rattle.pm_map.proofs.NumberedEdges.{dart_of_permutes}
 use Rattle.pm_close.proofs.JoiningSteps.{one_partner}
 use Rattle.pm_close.proofs.ClosedMap.{rotation_closes}
 

@@ -1,11 +1,11 @@
 -- The closure of a blossoming tree (Schaeffer 1997). Its darts are the places of the contour, the plant at place 0.
-use Rattle.std.specs.Prelude.{◌≡◌, ◌≢◌, ℕ, suc, ◌*◌, ◌%◌, ◌<◌, nat_lt, List, length, slice_index, if◌then◌else◌}
-use Rattle.pm_perm.specs.Count.{count_below}
+use Rattle.std.specs.Prelude.{◌≡◌, ◌≢◌, ℕ, suc, ◌%◌, ◌<◌, List, length, slice_index}
 use Rattle.pm_trees.specs.declared.letters.TheConstants.{OPEN, CLOSE}
 use Rattle.pm_trees.specs.Word.{IsBracketPair}
 use Rattle.pm_match.specs.Pair.{IsPair, IsFree}
 use Rattle.pm_map.specs.Structure.{Structure, CarriesTo}
 use Rattle.pm_map.specs.Rotation.{RotationSystem, structure_of}
+use Rattle.pm_map.specs.EdgeNumbers.{dart_of}
 
 -- the place across: the other bracket of a bracket, and each other place itself
 pub data IsAcross (places : List ℕ) (p q : ℕ) : Type 0 where
@@ -29,14 +29,6 @@ pub record IsClosure (places : List ℕ) (closure : Structure) : Type 0 where
   pub rotation : (p q : ℕ) → p < length places → IsAcross places p q → closure.next p ≡ suc q % length places
   pub twins : (p : ℕ) → p < length places → AreTwins places p (closure.twin p)
   pub root : closure.root ≡ 0
-
--- how many edges have their first place before this place
-abbrev pub edges_before : (ℕ → ℕ) → ℕ → ℕ
-edges_before twin place = count_below (λ p. nat_lt p (twin p)) place
-
--- the dart of a place, where the first place of the k-th edge, in the order of first places, is dart 2k
-abbrev pub dart_of : (ℕ → ℕ) → ℕ → ℕ
-dart_of twin p = if nat_lt p (twin p) then 2 * edges_before twin p else suc (2 * edges_before twin (twin p))
 
 -- the closure as a map: the closure on places, so numbered
 pub record IsClosed (places : List ℕ) (map : RotationSystem) : Type 0 where

@@ -4,7 +4,8 @@ use Rattle.std.specs.Prelude.{◌≡◌, ℕ, suc, ◌+◌, ◌<◌, List, lengt
 use Rattle.pm_trees.specs.declared.letters.TheConstants.{LEAF, BUD}
 use Rattle.pm_trees.specs.Word.{count}
 use Rattle.pm_map.specs.Structure.{Structure}
-use Rattle.pm_close.specs.Closure.{IsClosure, dart_of}
+use Rattle.pm_close.specs.Closure.{IsClosure}
+use Rattle.pm_map.specs.EdgeNumbers.{dart_of}
 
 -- The level of place p. Nothing stands before the plant. Before each other place stand the plant, buds and other leaves.
 pub record IsLevel (places : List ℕ) (p level : ℕ) : Type 0 where

@@ -4,5 +4,4 @@ pub mod Laws
 pub mod Level
 pub mod NodeDegrees
 pub mod Nodes
-pub mod Twinning
 pub mod steps

@@ -4,8 +4,8 @@ ghost use Rattle.pm_close.specs.declared.closing.CloseRefusal.TheVariants.{Memor
 
 use crate::joining::twins_of;
 use crate::levels::{Levels, levels_of};
-use crate::numbering::{darts_of, rotation_of};
-use pm_map::RootedMap;
+use crate::rotation::rotation_of;
+use pm_map::{RootedMap, darts_of};
 use pm_match::{matching, plant_bud};
 use pm_trees::{Tree, brackets};
 use std::alloc::{AllocError, Global};

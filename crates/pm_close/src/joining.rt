@@ -2,7 +2,7 @@ ghost use Rattle.std.specs.Prelude.{◌≡◌, ℕ, ◌<◌, length, vec_len, If
 ghost use Rattle.pm_trees.specs.Word.{contour, IsBracketing};
 ghost use Rattle.pm_match.specs.Pairing.{IsPairing};
 ghost use Rattle.pm_close.specs.steps.Joining.{IsJoined};
-ghost use Rattle.pm_close.specs.Twinning.{IsTwinList};
+ghost use Rattle.pm_close.specs.steps.Twins.{IsTwinList};
 
 use pm_match::Pairing;
 use pm_trees::Tree;

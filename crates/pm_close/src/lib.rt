@@ -5,7 +5,7 @@ mod closing;
 mod joining;
 mod laws;
 mod levels;
-mod numbering;
+mod rotation;
 
 pub use closing::{CloseRefusal, Closed, close_tree};
 pub use laws::{closure_is_unique, degrees_are_kept, nodes_are_vertices};

@@ -12,9 +12,11 @@ pub mod DegreesTaken
 pub mod DistanceLemmas
 pub mod DistanceRounds
 pub mod DualMaps
+pub mod EdgeNumbering
 pub mod EulerLemmas
 pub mod FaceWalkLemmas
 pub mod MarksLemmas
+pub mod NumberedEdges
 pub mod SameMaps
 pub mod SearchLemmas
 pub mod SimpleLemmas

@@ -8,6 +8,7 @@ pub mod DegreeScan
 pub mod DegreeTable
 pub mod DistanceLaws
 pub mod DualLaws
+pub mod EdgeNumbers
 pub mod Ends
 pub mod FaceDistance
 pub mod FaceWalk

@@ -7,6 +7,7 @@ mod counting;
 mod darts;
 mod degree_table;
 mod degrees;
+mod edge_numbers;
 mod euler;
 mod face_walk;
 mod laws;
@@ -20,6 +21,7 @@ mod simple;
 pub use admitted::Degrees;
 pub use class_refusal::ClassRefusal;
 pub use counting::Counts;
+pub use edge_numbers::darts_of;
 pub use face_walk::FaceWalk;
 pub use laws::{
     canonical_is_unique, classes_are_kept, degree_counts_darts, dual_is_a_map,

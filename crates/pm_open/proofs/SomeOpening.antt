@@ -13,7 +13,7 @@ use Rattle.pm_map.proofs.DegreeRules.{cycle_size_is_unique}
 use Rattle.pm_map.proofs.DistanceLemmas.{levels_are_distances}
 use Rattle.pm_map.proofs.DistanceRounds.{each_face_has_distance}
 use Rattle.pm_map.proofs.SameMaps.{same_transitive}
-use Rattle.pm_close.specs.Closure.{dart_of}
+use Rattle.pm_map.specs.EdgeNumbers.{dart_of}
 use Rattle.pm_close.proofs.OneClosure.{closures_same}
 use Rattle.pm_close.proofs.RootedClosure.{has_across}
 use Rattle.pm_close.proofs.SomeClosure.{each_tree_closes}

@@ -142,6 +142,6 @@ module _ (s : Structure) (level : ℕ → ℕ) (word : List ℕ) (read : IsReadA
       let h = no_head bracketing.0 bracketing.1 node named v.0 v.1 k l in
       up_bud (slice_index v.0 (suc k)) h.inside h.no_plant h.no_close) in
       let half = read.opened.half_up v.1.head v.0 inside v.1.is_vertex in
-      let same = ap (count BUD) v.1.entries_are in
+      let same = ap (count BUD) v.1.letters_are in
       let long = vertex_length (contour word) s node v.0 v.1 in
       omega (arith, counted, half, same, long)

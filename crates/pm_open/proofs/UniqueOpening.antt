@@ -6,7 +6,8 @@ use Rattle.pm_match.specs.Pair.{IsBalanced}
 use Rattle.pm_map.specs.Structure.{Structure, IsStructure, Same}
 use Rattle.pm_map.specs.Rotation.{RotationSystem, structure_of}
 use Rattle.pm_map.proofs.SameMaps.{same_symmetric, same_transitive}
-use Rattle.pm_close.specs.Closure.{IsClosure, dart_of}
+use Rattle.pm_close.specs.Closure.{IsClosure}
+use Rattle.pm_map.specs.EdgeNumbers.{dart_of}
 use Rattle.pm_close.proofs.ClosureStructure.{closure_structure}
 use Rattle.pm_open.specs.Laws.{HasOneOpening}
 use Rattle.pm_open.specs.Opening.{IsOpening}

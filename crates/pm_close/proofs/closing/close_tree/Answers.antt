@@ -1,7 +1,7 @@
 use Rattle.std.proofs.Common.{ℕ, List, length, sym, ap, ◌∙◌, subst, arith}
 use Rattle.std.specs.Prelude.{slice_index}
 use Rattle.pm_trees.specs.Word.{contour, IsBracketing}
-use Rattle.pm_close.specs.Twinning.{IsTwinList}
+use Rattle.pm_close.specs.steps.Twins.{IsTwinList}
 use Rattle.pm_close.proofs.ClosedMap.{is_made, twin_list_twins, darts_permute, across_below, made_is_closed, made_levels}
 use Rattle.pm_close.proofs.PlaneMap.{rooted_closure}
 use Rattle.pm_close.specs.steps.Levelling.{IsLow, AreLevelsAt}

@@ -1,7 +1,7 @@
 use Rattle.std.proofs.Common.{arith}
-use Rattle.pm_close.proofs.NumberingSteps.{numbered_few, numbered_first, numbered_second}
-use Rattle.pm_close.proofs.numbering.darts_of.Goals as goal
-use Rattle.pm_close.proofs.numbering.darts_of.Goals.{then-place-twin+in_ok-push, else-place-twin+in_ok-push-2}
+use Rattle.pm_map.proofs.EdgeNumbering.{numbered_few, numbered_first, numbered_second}
+use Rattle.pm_map.proofs.edge_numbers.darts_of.Goals as goal
+use Rattle.pm_map.proofs.edge_numbers.darts_of.Goals.{then-place-twin+in_ok-push, else-place-twin+in_ok-push-2}
 
 pub overflow_mul-edges : goal.overflow_mul-edges
 overflow_mul-edges c = omega (arith, numbered_few _ _ _ _ c.loop-place.invariant)

@@ -1,16 +1,14 @@
--- The steps of numbering the places and of writing the rotation.
-use Rattle.std.proofs.Common.{◌≡◌, ◌≢◌, ℕ, suc, ◌+◌, ◌*◌, ◌%◌, ◌<◌, ◌≤◌, inl, inr, ltb, List, [], ◌∷◌, ◌++◌, length, get_or, set, refl, sym, ◌∙◌, ap, arith, length-append, length-set}
+-- The steps of numbering the edges of places in twos.
+use Rattle.std.proofs.Common.{◌≡◌, ℕ, ◌+◌, ◌*◌, ◌<◌, ◌≤◌, inl, inr, ltb, List, [], ◌∷◌, ◌++◌, length, get_or, refl, sym, ◌∙◌, ap, arith, length-append}
 use Rattle.std.specs.Prelude.{slice_index}
 use Rattle.std.proofs.lemmas.Bool.{cases_lt, lt-ltb, le-ltb}
 use Rattle.std.proofs.lemmas.List.{get_or_append_left}
 use Rattle.std.proofs.Math.Seq.{get_or-append_seam}
-use Rattle.std.proofs.lemmas.Grind.{get_or_default_zero, get_or-set_at}
-use Rattle.std.proofs.Common.{get_or-set_other}
-use Rattle.pm_perm.specs.Permutation.{IsPermutationList}
+use Rattle.std.proofs.lemmas.Grind.{get_or_default_zero}
 use Rattle.pm_perm.proofs.Counts.{count_below-bound}
-use Rattle.pm_close.specs.Closure.{edges_before, dart_of}
-use Rattle.pm_close.specs.Twinning.{IsTwinning}
-use Rattle.pm_close.proofs.DartLemmas.{firsts_is, dart_of-first, dart_of-second}
+use Rattle.pm_map.specs.EdgeNumbers.{edges_before, dart_of}
+use Rattle.pm_map.specs.EdgeNumbers.{IsTwinning}
+use Rattle.pm_map.proofs.NumberedEdges.{firsts_is, dart_of-first, dart_of-second}
 
 -- the places below this one have their darts
 pub record IsNumbered (twins darts : List ℕ) (edges place : ℕ) : Type 0 where
@@ -71,37 +69,3 @@ numbered_second n twins darts edges place first tw l h le read =
     (omega (arith, counted_same t place less, h.counted)) where
       counted_same : (t : ℕ → ℕ) (place : ℕ) → t place < place → edges_before t (place + 1) ≡ edges_before t place
       counted_same t place l = let e = le-ltb place (t place) (omega arith) in grind arith
-
-below_not : (p place : ℕ) → p < place → p ≡ place → ⊥
-below_not p place l e = omega arith
-
--- the darts of the places below this one have their next dart
-pub record IsRotated (darts across sigma : List ℕ) (place : ℕ) : Type 0 where
-  pub as_long : length sigma ≡ length darts
-  pub each : (p : ℕ) → p < place → slice_index sigma (slice_index darts p) ≡ slice_index darts (suc (slice_index across p) % length darts)
-
-pub rotated_start : (darts across sigma : List ℕ) → length sigma ≡ length darts → IsRotated darts across sigma 0
-rotated_start darts across sigma e = record { as_long = e; each = λ p l. absurd (none p l) } where
-  none : (p : ℕ) → p < 0 → ⊥
-  none p l = omega arith
-
-pub rotated_more : (darts across sigma : List ℕ) (place next : ℕ) → IsPermutationList darts → place < length darts → IsRotated darts across sigma place
-    → next ≡ slice_index darts (suc (slice_index across place) % length darts)
-    → IsRotated darts across (set sigma (slice_index darts place) next) (place + 1)
-rotated_more darts across sigma place next perm l h e = record {
-  as_long = length-set sigma (slice_index darts place) next ∙ h.as_long;
-  each = λ p m. entry darts across sigma place next perm l h e p m;
-} where
-  entry : (darts across sigma : List ℕ) (place next : ℕ) → IsPermutationList darts → place < length darts → IsRotated darts across sigma place
-      → next ≡ slice_index darts (suc (slice_index across place) % length darts) → (p : ℕ) → p < place + 1
-      → slice_index (set sigma (slice_index darts place) next) (slice_index darts p) ≡ slice_index darts (suc (slice_index across p) % length darts)
-  entry darts across sigma place next perm l h e p m = elim (cases_lt p place) [
-    | inl below ↦
-        let ne : slice_index darts p ≢ slice_index darts place = λ same. below_not p place below (perm.injective p place (omega arith) l same) in
-        (rw get_or-set_other (h.each p below))
-    | inr above ↦
-        let here : p ≡ place = omega arith in
-        let inside : slice_index darts place < length sigma = omega (arith, perm.stays place l, h.as_long) in
-        get_or-set_at sigma (slice_index darts place) (slice_index darts p) next 0 (ap (slice_index darts) here) inside
-        ∙ e ∙ ap (λ (k : ℕ). slice_index darts (suc (slice_index across k) % length darts)) (sym here)
-  ]

@@ -1,12 +1,12 @@
 -- The darts of the places: edges numbered by their first places.
-use Rattle.std.proofs.Common.{◌≡◌, ◌≢◌, ℕ, suc, ◌*◌, ◌<◌, ◌≤◌, ◌⊎◌, inl, inr, Bool, not, ltb, refl, sym, ◌∙◌, ap, arith}
+use Rattle.std.proofs.Common.{◌≡◌, ◌≢◌, ℕ, suc, ◌*◌, ◌<◌, ◌≤◌, ◌⊎◌, inl, inr, Bool, not, cond, ltb, refl, sym, ◌∙◌, ap, arith}
 use Rattle.std.proofs.lemmas.Bool.{cases_lt, cases_eq, lt-ltb, le-ltb}
 use Rattle.pm_perm.specs.Count.{count_below}
 use Rattle.pm_perm.specs.Permutation.{IsPermutationBelow}
 use Rattle.pm_perm.proofs.Counts.{count_below-same, count_below-image, count_below-grows, count_below-parts}
 use Rattle.pm_map.specs.Rotation.{twin}
-use Rattle.pm_close.specs.Closure.{edges_before, dart_of}
-use Rattle.pm_close.specs.Twinning.{IsTwinning}
+use Rattle.pm_map.specs.EdgeNumbers.{edges_before, dart_of}
+use Rattle.pm_map.specs.EdgeNumbers.{IsTwinning}
 
 -- the first place of an edge
 pub is_first : (ℕ → ℕ) → ℕ → Bool
@@ -124,3 +124,18 @@ unfolding firsts is_first
 dart_of-root t ne = dart_of-first t 0 (omega arith) ∙ none t where
   none : (t : ℕ → ℕ) → 2 * firsts t 0 ≡ 0
   none t = omega arith
+
+-- twins that agree below n number the places below n alike
+edges_before-same : (t u : ℕ → ℕ) (n p : ℕ) → ((k : ℕ) → k < n → t k ≡ u k) → p ≤ n → edges_before t p ≡ edges_before u p
+edges_before-same t u n p same l = count_below-same (λ k. ltb k (t k)) (λ k. ltb k (u k)) p (λ k m. ap (ltb k) (same k (omega arith)))
+
+pub dart_of-same : (t u : ℕ → ℕ) (n p : ℕ) → ((k : ℕ) → k < n → t k ≡ u k) → p < n → t p < n → dart_of t p ≡ dart_of u p
+dart_of-same t u n p same l m =
+    let here : edges_before t p ≡ edges_before u p = edges_before-same t u n p same (omega arith) in
+    let there : edges_before t (t p) ≡ edges_before u (u p) = edges_before-same t u n (t p) same (omega arith) ∙ ap (edges_before u) (same p l) in
+    joined t u p (same p l) here there where
+      joined : (t u : ℕ → ℕ) (p : ℕ) → t p ≡ u p → edges_before t p ≡ edges_before u p → edges_before t (t p) ≡ edges_before u (u p) → dart_of t p ≡ dart_of u p
+      joined t u p e here there =
+          ap (λ (q : ℕ). cond (ltb p q) (2 * edges_before t p) (suc (2 * edges_before t (t p)))) e
+          ∙ ap (λ (x : ℕ). cond (ltb p (u p)) (2 * x) (suc (2 * edges_before t (t p)))) here
+          ∙ ap (λ (x : ℕ). cond (ltb p (u p)) (2 * edges_before u p) (suc (2 * x))) there

@@ -1,5 +1,5 @@
-use Rattle.pm_close.proofs.NumberingSteps.{IsNumbered}
-use Rattle.pm_close.proofs.numbering.darts_of.Given as goal
+use Rattle.pm_map.proofs.EdgeNumbering.{IsNumbered}
+use Rattle.pm_map.proofs.edge_numbers.darts_of.Given as goal
 
 abbrev pub invariant-loop-place : goal.invariant-loop-place
 invariant-loop-place l = IsNumbered l.twins l.darts.items l.edges l.place
