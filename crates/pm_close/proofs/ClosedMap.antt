@@ -4,18 +4,20 @@ use Rattle.std.specs.Prelude.{slice_index}
 use Rattle.pm_perm.specs.Permutation.{IsPermutationList}
 use Rattle.pm_trees.specs.Word.{contour, IsBracketing}
 use Rattle.pm_trees.proofs.Nesting.{other_below}
+use Rattle.pm_match.specs.Pair.{IsBalanced}
 use Rattle.pm_match.specs.Pairing.{Pairs, IsPairing}
-use Rattle.pm_map.specs.Structure.{CarriesTo}
-use Rattle.pm_map.specs.Rotation.{structure_of}
-use Rattle.pm_close.specs.Closure.{IsClosed}
+use Rattle.pm_map.specs.Structure.{Structure, CarriesTo}
+use Rattle.pm_map.specs.Rotation.{RotationSystem, structure_of}
+use Rattle.pm_close.specs.Closing.{ClosesTo}
+use Rattle.pm_close.specs.Closure.{IsClosure, IsClosed}
 use Rattle.pm_map.specs.EdgeNumbers.{dart_of}
 use Rattle.pm_close.specs.Level.{IsLevel, AreLevels}
 use Rattle.pm_close.specs.steps.Levelling.{AreLevelsAt}
 use Rattle.pm_close.specs.steps.Twins.{IsTwinList}
 use Rattle.pm_map.specs.EdgeNumbers.{IsTwinning}
-use Rattle.pm_close.proofs.TwinLemmas.{twins_apart}
+use Rattle.pm_close.proofs.TwinLemmas.{twin_unique, twin_within, twins_apart}
 use Rattle.pm_close.proofs.ClosureLemmas.{IsLaidOut, laid_out, laid_out_closes, laid_out_twins, bracketing_across}
-use Rattle.pm_map.proofs.NumberedEdges.{dart_of_permutes, dart_of-twin, dart_of-root}
+use Rattle.pm_map.proofs.NumberedEdges.{dart_of_permutes, dart_of-twin, dart_of-root, dart_of-same}
 use Rattle.pm_close.proofs.JoiningSteps.{one_partner}
 
 -- the lists that closing has made, and how they hang together
@@ -120,14 +122,24 @@ module _ (places across twins darts sigma : List ℕ) (found : Pairs) (made : Is
         ∙ dart_is (suc (slice_index across p) % length places) after
 
   -- the levels that are written at the darts of the places are those of the closure
-  pub made_levels : (letters levels : List ℕ) → places ≡ contour letters → AreLevelsAt letters darts levels → AreLevels places levels
-  unfolding laid_out
-  made_levels letters levels is written = record {
-    closure = laid_out places (slice_index across) (slice_index twins);
-    is_closure = laid_out_closes places (slice_index across) (slice_index twins) layout;
+  pub made_levels : (letters levels : List ℕ) (closure : Structure) → IsClosure places closure → places ≡ contour letters → AreLevelsAt letters darts levels → AreLevels places closure levels
+  made_levels letters levels closure closes is written = record {
     as_long = written.as_long ∙ all_darts;
-    each = λ p l. subst (λ (d : ℕ). IsLevel places p (slice_index levels d)) (dart_is p l)
+    each = λ p l. subst (λ (d : ℕ). IsLevel places p (slice_index levels d)) (dart_is p l ∙ same_dart p l)
         (subst (λ (xs : List ℕ). IsLevel xs p (slice_index levels (slice_index darts p))) (sym is) (written.each p (omega (arith, all_darts))));
   } where
     all_darts : length darts ≡ length places
     all_darts = made.as_many_darts ∙ made.are_twins.as_long
+
+    same_twin : (p : ℕ) → p < length places → slice_index twins p ≡ closure.twin p
+    same_twin p l = twin_unique places p (slice_index twins p) (closure.twin p) layout.one (made.are_twins.each p l) (closes.twins p l)
+
+    same_dart : (p : ℕ) → p < length places → dart_of (slice_index twins) p ≡ dart_of closure.twin p
+    same_dart p l = dart_of-same (slice_index twins) closure.twin (length places) p same_twin l (twin_within places p (slice_index twins p) (made.are_twins.each p l))
+
+  -- so they are what the places close to
+  pub made_closes : (letters levels : List ℕ) (map : RotationSystem) → map ≡ record { sigma = sigma; root = 0 } → IsBalanced places → 0 < length places → places ≡ contour letters
+      → AreLevelsAt letters darts levels → ClosesTo places (record { map = map; levels = levels })
+  made_closes letters levels map e balanced some is written =
+      let closed : IsClosed places map = subst (IsClosed places) (sym e) (made_is_closed some) in
+      record { balanced = balanced; is_closed = closed; levels = made_levels letters levels closed.closure closed.is_closure is written }

@@ -8,6 +8,7 @@ pub mod LevelSteps
 pub mod LowWords
 pub mod NodeVertices
 pub mod RotationSteps
+pub mod OneClosing
 pub mod OneClosure
 pub mod PlaneClosure
 pub mod PlaneMap

@@ -16,7 +16,7 @@ pub record HasAcross (places : List ℕ) : Type 0 where
   pub some : (p : ℕ) → p < length places → (q : ℕ) × IsAcross places p q
 
 -- the two closures on places have the same twins, and the same places next
-closures_twins : (places : List ℕ) (a b : Structure) → HasAcross places → IsClosure places a → IsClosure places b → (p : ℕ) → p < length places → a.twin p ≡ b.twin p
+pub closures_twins : (places : List ℕ) (a b : Structure) → HasAcross places → IsClosure places a → IsClosure places b → (p : ℕ) → p < length places → a.twin p ≡ b.twin p
 closures_twins places a b h one two p l = twin_unique places p (a.twin p) (b.twin p) h.one (one.twins p l) (two.twins p l)
 
 closures_next : (places : List ℕ) (a b : Structure) → HasAcross places → IsClosure places a → IsClosure places b → (p : ℕ) → p < length places → a.next p ≡ b.next p

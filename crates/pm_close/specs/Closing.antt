@@ -1,5 +1,6 @@
 -- What closing a tree answers.
-use Rattle.std.specs.Prelude.{ℕ, List, Result, Ok, Err, ⊤}
+use Rattle.std.specs.Prelude.{◌≡◌, ℕ, List, Result, Ok, Err, ⊤}
+use Rattle.pm_trees.specs.Blossoming.{IsBlossoming}
 use Rattle.pm_trees.specs.Word.{contour}
 use Rattle.pm_match.specs.Pair.{IsPair, IsBalanced}
 use Rattle.pm_close.specs.declared.closing.Closed.{Closed}
@@ -8,8 +9,20 @@ use Rattle.pm_close.specs.declared.closing.CloseRefusal.TheVariants.{Memory, Not
 use Rattle.pm_close.specs.Closure.{IsClosed}
 use Rattle.pm_close.specs.Level.{AreLevels}
 
--- The closure of a balanced tree and the levels of its darts, or the bud that the plant is in a pair with. Want of memory may come at any tree.
+-- what a balanced contour closes to: the map is its closure, and the levels are those of the darts of that closure
+pub record ClosesTo (places : List ℕ) (closed : Closed) : Type 0 where
+  pub balanced : IsBalanced places
+  pub is_closed : IsClosed places closed.map
+  pub levels : AreLevels places is_closed.closure closed.levels
+
+-- What a balanced tree closes to, or the bud that the plant is in a pair with. Want of memory may come at any tree.
 abbrev pub IsClosing : List ℕ → Result Closed CloseRefusal → Type 0
-IsClosing word (Ok closed) = IsBalanced (contour word) × IsClosed (contour word) closed.map × AreLevels (contour word) closed.levels
+IsClosing word (Ok closed) = ClosesTo (contour word) closed
 IsClosing word (Err (NotBalanced bud)) = IsPair (contour word) bud 0
 IsClosing word (Err Memory) = ⊤
+
+-- a tree has one answer, but for want of memory
+abbrev pub ClosingHasOneAnswer : Type 0
+ClosingHasOneAnswer =
+    (word : List ℕ) (first second : Result Closed CloseRefusal) → IsBlossoming word → IsClosing word first → IsClosing word second
+    → (first ≡ Err Memory → ⊥) → (second ≡ Err Memory → ⊥) → first ≡ second

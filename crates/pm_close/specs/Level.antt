@@ -4,7 +4,6 @@ use Rattle.std.specs.Prelude.{◌≡◌, ℕ, suc, ◌+◌, ◌<◌, List, lengt
 use Rattle.pm_trees.specs.declared.letters.TheConstants.{LEAF, BUD}
 use Rattle.pm_trees.specs.Word.{count}
 use Rattle.pm_map.specs.Structure.{Structure}
-use Rattle.pm_close.specs.Closure.{IsClosure}
 use Rattle.pm_map.specs.EdgeNumbers.{dart_of}
 
 -- The level of place p. Nothing stands before the plant. Before each other place stand the plant, buds and other leaves.
@@ -12,9 +11,7 @@ pub record IsLevel (places : List ℕ) (p level : ℕ) : Type 0 where
   pub plant : p ≡ 0 → level ≡ 0
   pub other : 0 < p → level + count LEAF (drop 1 (take p places)) ≡ suc (count BUD (take p places))
 
--- entry d of the list is the level of the place that is dart d of the closure
-pub record AreLevels (places levels : List ℕ) : Type 0 where
-  pub closure : Structure
-  pub is_closure : IsClosure places closure
+-- entry d of the list is the level of the place that is dart d of this closure
+pub record AreLevels (places : List ℕ) (closure : Structure) (levels : List ℕ) : Type 0 where
   pub as_long : length levels ≡ length places
   pub each : (p : ℕ) → p < length places → IsLevel places p (slice_index levels (dart_of closure.twin p))

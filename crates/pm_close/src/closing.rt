@@ -1,12 +1,15 @@
-ghost use Rattle.std.specs.Prelude.{◌≡◌};
-ghost use Rattle.pm_close.specs.Closing.{IsClosing};
+ghost use Rattle.std.specs.Prelude.{◌≡◌, IfOk};
+ghost use Rattle.pm_trees.specs.Word.{IsBracketing, contour};
+ghost use Rattle.pm_match.specs.Pair.{IsBalanced};
+ghost use Rattle.pm_match.specs.Pairing.{IsPairing};
+ghost use Rattle.pm_close.specs.Closing.{ClosesTo, IsClosing};
 ghost use Rattle.pm_close.specs.declared.closing.CloseRefusal.TheVariants.{Memory};
 
 use crate::joining::twins_of;
 use crate::levels::{Levels, levels_of};
 use crate::rotation::rotation_of;
 use pm_map::{RootedMap, darts_of};
-use pm_match::{matching, plant_bud};
+use pm_match::{Pairing, matching, plant_bud};
 use pm_trees::{Tree, brackets};
 use std::alloc::{AllocError, Global};
 
@@ -48,12 +51,44 @@ pub fn close_tree(alloc: Global, tree: &Tree) -> Result<Closed, CloseRefusal>
     if let Some(bud) = plant_bud(tree) {
         return Err(CloseRefusal::NotBalanced { bud });
     }
-    let letters = tree.letters();
+    Ok(close_balanced(alloc, tree)?)
+}
+
+/// Closes a tree that is known to be balanced: the plant's bud isn't looked for.
+///
+/// # Errors
+///
+/// Only where there is no memory left.
+pub fn close_balanced(alloc: Global, tree: &Tree) -> Result<Closed, AllocError>
+    requires { IsBalanced (contour tree.now) }
+    ensures { IfOk result (ClosesTo (contour tree.now)) }
+{
     let across = brackets(alloc, tree)?;
     let pairing = matching(alloc, tree)?;
-    let twins = twins_of(alloc, tree, &across, &pairing)?;
+    close_paired(alloc, tree, &across, &pairing)
+}
+
+/// Closes a tree that is known to be balanced, whose brackets and pairs are at hand: those that `brackets` and `matching`
+/// give.
+///
+/// # Errors
+///
+/// Only where there is no memory left.
+pub fn close_paired(
+    alloc: Global,
+    tree: &Tree,
+    across: &[u32],
+    pairing: &Pairing,
+) -> Result<Closed, AllocError>
+    requires balanced { IsBalanced (contour tree.now) }
+    requires bracketing { IsBracketing (contour tree.now) across.now }
+    requires pairing { IsPairing (contour tree.now) pairing.now }
+    ensures { IfOk result (ClosesTo (contour tree.now)) }
+{
+    let letters = tree.letters();
+    let twins = twins_of(alloc, tree, across, pairing)?;
     let darts = darts_of(alloc, &twins)?;
-    let sigma = rotation_of(alloc, &darts, &across)?;
+    let sigma = rotation_of(alloc, &darts, across)?;
     let levels = levels_of(alloc, letters, &darts)?;
     Ok(Closed {
         map: RootedMap::of_rotation(sigma, 0),

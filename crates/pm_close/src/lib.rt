@@ -7,8 +7,10 @@ mod laws;
 mod levels;
 mod rotation;
 
-pub use closing::{CloseRefusal, Closed, close_tree};
-pub use laws::{closure_is_unique, degrees_are_kept, nodes_are_vertices};
+pub use closing::{CloseRefusal, Closed, close_balanced, close_paired, close_tree};
+pub use laws::{
+    closing_answer_is_unique, degrees_are_kept, each_tree_closes_once, nodes_are_vertices,
+};
 pub use levels::Levels;
 
 #[cfg(test)]
