@@ -11,8 +11,8 @@ use Rattle.pm_map.specs.CycleSize.{IsCycleSize}
 use Rattle.pm_map.specs.FaceDistance.{AreFaceLevels}
 use Rattle.pm_map.proofs.DegreeCounts.{HasSize, has_size, degree_counts_darts}
 use Rattle.pm_open.proofs.Walked.{is_cut, across, IsWalkedInOrder}
-use Rattle.pm_open.proofs.EvenCounts.{even_in_pairs, even_in_cycles}
-use Rattle.pm_open.proofs.Stretches.{is_between, between-in, between-bounds, count_below-between, stretch-kept}
+use Rattle.pm_perm.proofs.EvenCounts.{even_in_pairs, even_in_cycles}
+use Rattle.pm_perm.proofs.Stretches.{is_between, between-in, between-bounds, count_below-between, stretch-kept}
 use Rattle.pm_open.proofs.EdgeKinds.{cut_twin, across_kept}
 use Rattle.pm_open.proofs.NestedEdges.{across-involution, next-across}
 use Rattle.pm_open.proofs.LevelsAlong.{kept-not_up, level-parity}

@@ -1,6 +1,5 @@
 pub mod Cutting
 pub mod EdgeKinds
-pub mod EvenCounts
 pub mod EvenDegrees
 pub mod FaceSearch
 pub mod Folded
@@ -9,14 +8,15 @@ pub mod KeptEdges
 pub mod LevelsAlong
 pub mod NestedEdges
 pub mod Opened
+pub mod OneOpening
 pub mod OpenedWalk
+pub mod OneApart
 pub mod PassedDarts
 pub mod PlaceKinds
 pub mod SomeOpening
 pub mod Spelled
 pub mod SpelledNodes
 pub mod SpelledPairs
-pub mod Stretches
 pub mod TreeLevels
 pub mod TreeWalk
 pub mod UniqueOpening

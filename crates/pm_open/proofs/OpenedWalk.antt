@@ -84,7 +84,7 @@ half-up s level d vertex is levels one h from =
       plain count all first next i size e back long whole = omega arith
 
 -- where the other edges lead down from their lesser darts, the level changes by one across each edge
-changes-by_one : (s : Structure) (level : ℕ → ℕ) → IsStructure s
+pub changes-by_one : (s : Structure) (level : ℕ → ℕ) → IsStructure s
     → ((d : ℕ) → d < s.darts → is_cut s level d ≡ false → d < s.twin d → level d ≡ suc (level (s.twin d))) → ChangesByOne s level
 changes-by_one s level is down = record {
   changes = λ d h. elim (cases_Bool (is_cut s level d)) [
@@ -108,6 +108,13 @@ root-up s level is some levels walked down =
       | inl cut ↦ cut-up s level 0 cut (omega arith) ∙ ap suc root
       | inr kept ↦ absurd (let fall = down 0 some kept (omega arith) in omega (arith, root, fall))
     ]
+
+-- across each edge the level changes by one
+pub one_apart : (s : Structure) (level : ℕ → ℕ) → IsStructure s → 0 < s.darts → HasEulerTwo s → AreFaceLevels s level → IsWalkedInOrder s level
+    → ((d degree : ℕ) → d < s.darts → IsCycleSize s.next d degree → degree % 2 ≡ 0) → ChangesByOne s level
+one_apart s level is some euler levels walked even =
+    let nested : IsNestedBelow s.darts (across s level) × IsNestedBelow s.darts (partner s level) = edges_nested s level is some euler walked in
+    changes-by_one s level is (λ d h kept less. kept-down s level d is levels walked nested.0 even h kept less)
 
 -- what the walk leaves in a plane structure with even degrees
 pub opened : (s : Structure) (level : ℕ → ℕ) → IsStructure s → 0 < s.darts → HasEulerTwo s → AreFaceLevels s level → IsWalkedInOrder s level

@@ -19,7 +19,7 @@ use Rattle.pm_close.proofs.RootedClosure.{has_across}
 use Rattle.pm_close.proofs.SomeClosure.{each_tree_closes}
 use Rattle.pm_open.specs.Opening.{IsOpening}
 use Rattle.pm_open.specs.Laws.{EachMapOpens}
-use Rattle.pm_open.proofs.EvenDegrees.{HasEvenDegrees, even_carried}
+use Rattle.pm_open.proofs.EvenDegrees.{HasEvenDegrees, each_degree_carried}
 use Rattle.pm_open.proofs.Walked.{IsSpelled}
 use Rattle.pm_open.proofs.Walks.{IsWalked, each_map_is_walked}
 use Rattle.pm_open.proofs.OpenedWalk.{opened}
@@ -32,7 +32,7 @@ opening_of_walk map level w word valid some even levels spelled =
     let s : Structure = structure_of map in
     let some_walked : 0 < w.walked.darts = omega (arith, w.carries.darts, some) in
     let few : w.walked.darts ≤ 2 * MAX_EDGES = subst (λ n. n ≤ 2 * MAX_EDGES) w.carries.darts valid.few in
-    let even_walked : HasEvenDegrees w.walked = even_carried w.rename s w.walked valid.structure w.structure w.carries even in
+    let even_walked : HasEvenDegrees w.walked = each_degree_carried IsDegree w.rename s w.walked valid.structure w.structure w.carries even in
     let euler = euler_carried w.rename s w.walked valid.structure w.structure w.carries valid.euler in
     let is_opened = opened w.walked w.walked_level w.structure some_walked euler w.levels w.in_order (λ d degree h size. (even_walked d degree h size).even) in
     let tree = spells_a_tree w.walked w.walked_level word w.structure some_walked few even_walked w.levels w.in_order is_opened spelled in

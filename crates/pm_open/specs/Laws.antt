@@ -11,8 +11,11 @@ use Rattle.pm_map.specs.Rotation.{RotationSystem, IsRootedMap, structure_of}
 use Rattle.pm_map.specs.FaceDistance.{IsFaceDistance}
 use Rattle.pm_map.specs.Classes.{vertices_of_degree}
 use Rattle.pm_map.specs.ClassRules.{AllAdmitted}
+use Rattle.pm_close.specs.declared.closing.Closed.{Closed}
+use Rattle.pm_close.specs.Closing.{ClosesTo}
 use Rattle.pm_close.specs.Closure.{IsClosure}
 use Rattle.pm_close.specs.Level.{IsLevel}
+use Rattle.pm_open.specs.Distances.{AreFaceDistances}
 use Rattle.pm_open.specs.Opening.{IsOpening}
 
 -- a rooted map with a dart whose vertices have even degrees within the limit has an opening
@@ -28,6 +31,10 @@ HasOneOpening = (map : RotationSystem) (one other : List ℕ) → IsRootedMap ma
 abbrev pub LevelsAreFaceDistances : Type 0
 LevelsAreFaceDistances = (word : List ℕ) → IsBlossoming word → IsBalanced (contour word) → (closure : Structure) → IsClosure (contour word) closure
     → (p level : ℕ) → p < length (contour word) → IsLevel (contour word) p level → IsFaceDistance closure 0 p level
+
+-- so the levels of a closed tree are the distances of the faces of its map
+abbrev pub ClosedLevelsAreDistances : Type 0
+ClosedLevelsAreDistances = (word : List ℕ) (closed : Closed) → IsBlossoming word → ClosesTo (contour word) closed → AreFaceDistances closed.map closed.levels
 
 -- of each degree the map has as many vertices as its opening has nodes
 abbrev pub OpeningKeepsDegrees : Type 0

@@ -1,3 +1,4 @@
+pub mod AcrossEdges
 pub mod Distances
 pub mod Laws
 pub mod Opening

@@ -1,11 +1,11 @@
 -- The opening of a map (Schaeffer 1997): the balanced tree whose closure it is, up to the names of darts.
-use Rattle.std.specs.Prelude.{ℕ, List, Result, Ok, Err, ⊤}
+use Rattle.std.specs.Prelude.{◌≡◌, ℕ, List, Result, Ok, Err, ⊤}
 use Rattle.pm_limits.specs.declared.TheConstants.{MAX_DEGREE}
 use Rattle.pm_trees.specs.Word.{contour}
 use Rattle.pm_trees.specs.Blossoming.{IsBlossoming}
 use Rattle.pm_match.specs.Pair.{IsBalanced}
 use Rattle.pm_map.specs.Structure.{Same}
-use Rattle.pm_map.specs.Rotation.{RotationSystem, structure_of}
+use Rattle.pm_map.specs.Rotation.{RotationSystem, IsRootedMap, structure_of}
 use Rattle.pm_map.specs.ClassRules.{IsLeastOther}
 use Rattle.pm_map.specs.declared.admitted.Degrees.TheVariants.{EvenUpTo}
 use Rattle.pm_close.specs.Closure.{IsClosed}
@@ -26,3 +26,9 @@ abbrev pub IsOpenAnswer : RotationSystem → Result (List ℕ) OpenRefusal → T
 IsOpenAnswer map (Ok word) = IsOpening map word
 IsOpenAnswer map (Err (Degree dart)) = IsLeastOther (structure_of map) (EvenUpTo MAX_DEGREE) dart
 IsOpenAnswer map (Err Memory) = ⊤
+
+-- a rooted map with a dart has one answer, but for want of memory
+abbrev pub OpeningHasOneAnswer : Type 0
+OpeningHasOneAnswer =
+    (map : RotationSystem) (first second : Result (List ℕ) OpenRefusal) → IsRootedMap map → IsOpenAnswer map first → IsOpenAnswer map second
+    → (first ≡ Err Memory → ⊥) → (second ≡ Err Memory → ⊥) → first ≡ second

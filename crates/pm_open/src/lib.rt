@@ -6,7 +6,10 @@ mod laws;
 mod opening;
 mod walking;
 
-pub use laws::{each_map_opens_once, levels_are_face_distances, openings_keep_degrees};
+pub use laws::{
+    each_map_opens_once, face_distances_differ_by_one, levels_are_face_distances,
+    opening_answer_is_unique, openings_keep_degrees,
+};
 pub use opening::{OpenRefusal, open_map};
 
 #[cfg(test)]

@@ -1,6 +1,7 @@
 pub mod BothNested
 pub mod Checks
 pub mod Counts
+pub mod EvenCounts
 pub mod InverseLemmas
 pub mod LeaderMaps
 pub mod LeadersWritten
@@ -16,4 +17,5 @@ pub mod PlacesWritten
 pub mod Renumbered
 pub mod Repeats
 pub mod SameCycle
+pub mod Stretches
 pub mod Walks

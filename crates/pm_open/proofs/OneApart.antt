@@ -1,0 +1,48 @@
+-- The distances of the two faces of an edge differ by one where all degrees are even.
+use Rattle.std.proofs.Common.{◌≡◌, ℕ, suc, ◌%◌, ◌<◌, ◌⊎◌, inl, inr, sym, ap, ◌∙◌, arith}
+use Rattle.pm_map.specs.Structure.{Structure, IsStructure}
+use Rattle.pm_map.specs.Plane.{IsPlane}
+use Rattle.pm_map.specs.FaceDistance.{IsFaceDistance, AreFaceLevels}
+use Rattle.pm_map.proofs.CarriedStructure.{euler_carried}
+use Rattle.pm_map.proofs.DistanceLemmas.{levels_are_distances}
+use Rattle.pm_map.proofs.DistanceRounds.{each_face_has_distance}
+use Rattle.pm_open.specs.AcrossEdges.{AllDegreesAreEven, DistancesDifferByOne}
+use Rattle.pm_open.proofs.EvenDegrees.{each_degree_carried}
+use Rattle.pm_open.proofs.OpenedWalk.{ChangesByOne, one_apart}
+use Rattle.pm_open.proofs.Walks.{IsWalked, each_map_is_walked}
+
+-- two faces have one distance
+one_distance : (s : Structure) (d e one other : ℕ) → IsFaceDistance s d e one → IsFaceDistance s d e other → one ≡ other
+one_distance s d e one other a b =
+    let x = a.least b.over b.leads in
+    let y = b.least a.over a.leads in
+    omega (arith, a.counted, b.counted)
+
+-- levels change by one across each edge, since they do where the darts are numbered along the walk
+changes : (s : Structure) (level : ℕ → ℕ) → IsStructure s → 0 < s.darts → IsPlane s → AllDegreesAreEven s → AreFaceLevels s level → ChangesByOne s level
+changes s level is some plane even levels =
+    let w : IsWalked s level = each_map_is_walked s level is some levels in
+    let euler = euler_carried w.rename s w.walked is w.structure w.carries plane.euler in
+    let even_walked = each_degree_carried (λ degree. degree % 2 ≡ 0) w.rename s w.walked is w.structure w.carries even in
+    let one = one_apart w.walked w.walked_level w.structure (omega (arith, w.carries.darts)) euler w.levels w.in_order even_walked in
+    record { changes = λ d l. back s level is w one d l } where
+      back : (s : Structure) (level : ℕ → ℕ) → IsStructure s → (w : IsWalked s level) → ChangesByOne w.walked w.walked_level → (d : ℕ) → d < s.darts
+          → (level (s.twin d) ≡ suc (level d)) ⊎ (level d ≡ suc (level (s.twin d)))
+      back s level is w one d l =
+          let here : w.walked_level (w.rename d) ≡ level d = w.same_level d l in
+          let beyond : w.walked_level (w.walked.twin (w.rename d)) ≡ level (s.twin d) = ap w.walked_level (sym (w.carries.twin d l)) ∙ w.same_level (s.twin d) (is.twin_stays d l) in
+          elim (one.changes (w.rename d) (omega (arith, w.carries.renumbers.stays d l, w.carries.darts))) [
+            | inl up ↦ inl (omega (arith, up, here, beyond))
+            | inr down ↦ inr (omega (arith, down, here, beyond))
+          ]
+
+pub differ_by_one : DistancesDifferByOne
+differ_by_one s is plane even d here beyond l at_here at_beyond =
+    let distances = each_face_has_distance s is plane.connected in
+    let levels : AreFaceLevels s distances.0 = (levels_are_distances s distances.0 is).1 distances.1 in
+    let one : here ≡ distances.0 d = one_distance s s.root d here (distances.0 d) at_here (distances.1 d l) in
+    let other : beyond ≡ distances.0 (s.twin d) = one_distance s s.root (s.twin d) beyond (distances.0 (s.twin d)) at_beyond (distances.1 (s.twin d) (is.twin_stays d l)) in
+    elim ((changes s distances.0 is (omega arith) plane even levels).changes d l) [
+      | inl up ↦ inl (omega (arith, up, one, other))
+      | inr down ↦ inr (omega (arith, down, one, other))
+    ]
