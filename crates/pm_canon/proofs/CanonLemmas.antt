@@ -4,7 +4,7 @@ use Rattle.std.proofs.lemmas.List.{get_or_append_left, append-nil, get_or-map, l
 use Rattle.std.proofs.lemmas.Bool.{cases_eq, cond-true, cond-false, eq-eqb, ne_eqb}
 use Rattle.pm_limits.specs.declared.TheConstants.{MAX_EDGES}
 use Rattle.pm_perm.specs.Permutation.{IsPermutationBelow}
-use Rattle.pm_perm.proofs.Pigeonhole.{Places-le}
+use Rattle.pm_perm.proofs.Permutations.{pigeonhole}
 use Rattle.pm_map.specs.Structure.{Structure, CarriesTo}
 use Rattle.pm_map.specs.Rotation.{RotationSystem, structure_of, twin, IsRootedMap}
 use Rattle.pm_map.specs.Canonical.{first_mentions, IsCanonicalOf}
@@ -68,10 +68,8 @@ dart_named-name m darts names n name h =
 -- there are no more mentions than edges
 mentions_fit : (m : RotationSystem) (darts names : List ℕ) → IsNumbered m darts names → 2 * length (first_mentions darts) ≤ length m.sigma
 mentions_fit m darts names n =
-    Places-le (2 * length (first_mentions darts)) (length m.sigma) (dart_named (first_mentions darts)) (record {
-      stays = dart_named-below m darts names n;
-      injective = λ j k hj hk same. sym (dart_named-name m darts names n j hj) ∙ ap (λ d. get_or names d 0) same ∙ dart_named-name m darts names n k hk;
-    })
+    pigeonhole (dart_named (first_mentions darts)) (2 * length (first_mentions darts)) (length m.sigma) (dart_named-below m darts names n)
+    (λ j k hj hk same. sym (dart_named-name m darts names n j hj) ∙ ap (λ d. get_or names d 0) same ∙ dart_named-name m darts names n k hk)
 
 name_stays : (m : RotationSystem) (darts names : List ℕ) → IsNumbered m darts names → (d : ℕ) → IsNamed (first_mentions darts) names d → get_or names d 0 < length m.sigma
 name_stays m darts names n d (as_mention k h here is) = omega (arith, mentions_fit m darts names n)

@@ -4,7 +4,7 @@ use Rattle.std.proofs.lemmas.List.{get_or_append_left, get_or_push, get_or-set_s
 use Rattle.std.specs.List.{slice_get}
 use Rattle.std.proofs.lemmas.Option.{get_or_from_slice_get}
 use Rattle.std.proofs.lemmas.Bool.{cases_lt, cases_eq, false≢true}
-use Rattle.pm_perm.proofs.Pigeonhole.{Places-le}
+use Rattle.pm_perm.proofs.Permutations.{pigeonhole}
 use Rattle.pm_map.specs.Meeting.{Stands}
 use Rattle.pm_map.proofs.StandsLemmas.{Stands-push, Stands-append_left, cases_push}
 use Rattle.pm_canon.specs.Kept.{HasEachOnce, MarksDarts}
@@ -12,7 +12,7 @@ use Rattle.pm_canon.specs.Kept.{HasEachOnce, MarksDarts}
 -- darts below a bound, each once, are no more than the bound
 pub HasEachOnce-length : (bound : ℕ) (darts : List ℕ) → HasEachOnce bound darts → length darts ≤ bound
 HasEachOnce-length bound darts once =
-    Places-le (length darts) bound (λ k. get_or darts k 0) (record { stays = once.stays; injective = once.injective })
+    pigeonhole (λ k. get_or darts k 0) (length darts) bound once.stays once.injective
 
 pub HasEachOnce-push : (bound : ℕ) (darts : List ℕ) (d : ℕ) → HasEachOnce bound darts → d < bound → (Stands darts d → ⊥)
     → HasEachOnce bound (darts ++ d ∷ [])

@@ -24,7 +24,7 @@ pub fn canon(alloc: Global, map: &RootedMap) -> Result<RootedMap, AllocError>
     let darts = meeting::meeting_list(alloc, sigma, map.root())?;
     let names = naming::names_of(alloc, &darts, sigma.len())?;
     let renamed = naming::renamed(alloc, sigma, &names)?;
-    Ok(RootedMap::of_rotation(renamed, 0))
+    Ok(RootedMap::from_rooted_rotation(renamed, 0))
 }
 
 /// Whether the two maps are the same, up to the numbers of their darts.

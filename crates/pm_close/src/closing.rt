@@ -91,7 +91,7 @@ pub fn close_paired(
     let sigma = rotation_of(alloc, &darts, across)?;
     let levels = levels_of(alloc, letters, &darts)?;
     Ok(Closed {
-        map: RootedMap::of_rotation(sigma, 0),
+        map: RootedMap::from_rooted_rotation(sigma, 0),
         levels,
     })
 }

@@ -3,7 +3,7 @@ use Rattle.std.proofs.Common.{◌≡◌, ◌≢◌, ℕ, suc, ◌+◌, ◌-◌, 
 use Rattle.std.proofs.lemmas.List.{get_or-set_same, get_or-set_other}
 use Rattle.std.proofs.lemmas.Bool.{cases_eq, cases_order}
 use Rattle.pm_perm.specs.Permutation.{IsPermutationBelow}
-use Rattle.pm_perm.proofs.Pigeonhole.{Places-le}
+use Rattle.pm_perm.proofs.Permutations.{pigeonhole}
 use Rattle.pm_perm.specs.Cycles.{repeated}
 use Rattle.pm_perm.proofs.Repeats.{repeated-inside, repeated-injective, repeated-swap, repeated-back}
 use Rattle.pm_map.specs.CycleSize.{IsCycleSize, IsSized}
@@ -34,14 +34,10 @@ pub IsAway-short : (n : ℕ) (f : ℕ → ℕ) (d steps next : ℕ) → IsPermut
 IsAway-short n f d steps next p h w =
     let apart : (j k : ℕ) → j < k → k < steps → repeated f j d ≡ repeated f k d → ⊥ =
     λ j k less within e. w.away (k - j) (omega arith) (omega arith) (repeated-back n f j k d p h less e) in
-    Places-le steps n (λ k. repeated f k d)
-    (record {
-      stays = λ k _. repeated-inside f n p k d h;
-      injective = λ j k hj hk e. elim (cases_order j k) [
-        | inl same ↦ same
-        | inr differs ↦ elim differs [ inl less ↦ absurd (apart j k less hk e) | inr more ↦ absurd (apart k j more hj (sym e)) ]
-      ];
-    })
+    pigeonhole (λ k. repeated f k d) steps n (λ k _. repeated-inside f n p k d h) (λ j k hj hk e. elim (cases_order j k) [
+      | inl same ↦ same
+      | inr differs ↦ elim differs [ inl less ↦ absurd (apart j k less hk e) | inr more ↦ absurd (apart k j more hj (sym e)) ]
+    ])
 
 pub IsAway-size : (f : ℕ → ℕ) (d steps next : ℕ) → IsAway f d steps next → next ≡ d → IsCycleSize f d steps
 IsAway-size f d steps next w back = record { some = w.some; back = sym w.leads ∙ back; least = w.away }

@@ -3,10 +3,11 @@ use Rattle.std.proofs.Common.{◌≡◌, ℕ, ◌<◌, inl, inr, List, ◌++◌,
 use Rattle.std.proofs.Math.Seq.{take-append_seam}
 use Rattle.std.proofs.lemmas.Bool.{cases_order}
 use Rattle.std.specs.Prelude.{MatchOption}
+use Rattle.pm_perm.proofs.LeastLemmas.{least_is_unique}
 use Rattle.pm_map.specs.declared.admitted.Degrees.{Degrees}
 use Rattle.pm_map.specs.Structure.{Structure}
 use Rattle.pm_map.specs.CycleSize.{IsCycleSize, AreCycleSizes}
-use Rattle.pm_map.specs.ClassRules.{IsAdmitted, AllAdmitted, IsLeastOther}
+use Rattle.pm_map.specs.ClassRules.{IsAdmitted, HasAdmittedDegree, AllAdmitted, IsLeastOther}
 use Rattle.pm_map.specs.DegreeScan.{AreAdmitted, IsLeastEntry}
 use Rattle.pm_map.proofs.MarksLemmas.{MatchOption-weaker}
 
@@ -24,10 +25,7 @@ cycle_size_is_unique f d a b is_a is_b = elim (cases_order a b) [
 
 -- there is one least dart whose degree isn't admitted
 pub least_other_is_unique : (s : Structure) (degrees : Degrees) (a b : ℕ) → IsLeastOther s degrees a → IsLeastOther s degrees b → a ≡ b
-least_other_is_unique s degrees a b x y = elim (cases_order a b) [
-  | inl same ↦ same
-  | inr apart ↦ elim apart [ inl less ↦ absurd (x.breaks (y.least a less)) | inr more ↦ absurd (y.breaks (x.least b more)) ]
-]
+least_other_is_unique s degrees = least_is_unique s.darts (HasAdmittedDegree s degrees) (λ d. HasAdmittedDegree s degrees d → ⊥) (λ d has not. not has)
 
 -- the first entry that isn't admitted is the first dart whose degree isn't
 pub other_from_entry : (s : Structure) (degrees : Degrees) (sizes : List ℕ) (found : Option ℕ) → length sizes ≡ s.darts → AreCycleSizes s.next sizes s.darts

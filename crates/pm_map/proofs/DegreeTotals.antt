@@ -3,17 +3,12 @@ use Rattle.std.proofs.Common.{◌≡◌, ℕ, zero, suc, ◌+◌, ◌*◌, ◌<�
 use Rattle.std.proofs.lemmas.Bool.{cases_eq, cases_lt, cases_Bool, lt-ltb, le-ltb, eq-eqb, ne_eqb, eqb-true}
 use Rattle.pm_perm.specs.Count.{count_below}
 use Rattle.pm_perm.specs.Cycles.{leader, cycles}
-use Rattle.pm_perm.proofs.Counts.{count_below-all, count_below-same, count_below-split}
+use Rattle.pm_perm.proofs.Counts.{count_below-all, count_below-none, count_below-same, count_below-split}
 use Rattle.pm_perm.proofs.LeaderMaps.{leader-map, leader_map-inside, leader_map-twice}
 use Rattle.pm_map.specs.Structure.{Structure, IsStructure}
 use Rattle.pm_map.specs.CycleSize.{IsCycleSize}
 use Rattle.pm_map.specs.Classes.{degree_of}
 use Rattle.pm_map.proofs.DegreeCounts.{degree_counts_darts}
-
--- no number passes
-none_pass : (passes : ℕ → Bool) (n : ℕ) → ((k : ℕ) → k < n → passes k ≡ false) → count_below passes n ≡ 0
-none_pass passes zero h = refl
-none_pass passes (suc n) h = let last = h n (omega arith) in let before = none_pass passes n (λ k less. h k (omega arith)) in rw (last, before) refl
 
 both_true : (a b : Bool) → a ≡ true → (a && b) ≡ b
 both_true a b e = rw e refl
@@ -74,18 +69,18 @@ module _ (n size : ℕ) (lead : ℕ → ℕ) (has : ℕ → Bool) (inside : (k :
 
   by_no : (m : ℕ) → has m ≡ false → led_by m ≡ 0
   unfolding led_by
-  by_no m of_no = none_pass (λ e. has e && nat_eq (lead e) m) n (λ k less. elim (cases_eq (lead k) m) [
+  by_no m of_no = count_below-none (λ e. has e && nat_eq (lead e) m) n (λ k less. elim (cases_eq (lead k) m) [
     | inl same ↦ first_false (has k) (nat_eq (lead k) m) (sym (kept k less) ∙ ap has same ∙ of_no)
     | inr other ↦ second_false (has k) (nat_eq (lead k) m) (ne_eqb (lead k) m other)
   ])
 
   by_other : (m : ℕ) → (lead m ≡ m → ⊥) → led_by m ≡ 0
   unfolding led_by
-  by_other m other = none_pass (λ e. has e && nat_eq (lead e) m) n (λ k less. second_false (has k) (nat_eq (lead k) m) (ne_eqb (lead k) m (λ same. other (sym (ap lead same) ∙ twice k less ∙ same))))
+  by_other m other = count_below-none (λ e. has e && nat_eq (lead e) m) n (λ k less. second_false (has k) (nat_eq (lead k) m) (ne_eqb (lead k) m (λ same. other (sym (ap lead same) ∙ twice k less ∙ same))))
 
   led_none : led 0 ≡ size * 0
   unfolding led
-  led_none = none_pass (λ e. has e && ltb (lead e) 0) n (λ k less. second_false (has k) (ltb (lead k) 0) (le-ltb (lead k) 0 (omega arith))) ∙ (let e : 0 ≡ size * 0 = omega arith in e)
+  led_none = count_below-none (λ e. has e && ltb (lead e) 0) n (λ k less. second_false (has k) (ltb (lead k) 0) (le-ltb (lead k) 0 (omega arith))) ∙ (let e : 0 ≡ size * 0 = omega arith in e)
 
   leaders : ℕ → ℕ
   leaders m = count_below (λ d. nat_eq (lead d) d && has d) m

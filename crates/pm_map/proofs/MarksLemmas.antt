@@ -62,11 +62,11 @@ pub missing_from_marks : (values : List ℕ) (marks : List Bool) (n : ℕ) → l
     → IsLeastUnmarked marks n → IsLeastMissing values n
 missing_from_marks values marks n size m least = record {
   within = omega (arith, least.within);
-  nowhere = λ s. nowhere_marked s;
+  breaks = λ s. nowhere_marked s;
   least = λ k h. m.stands k (least.least k h);
 } where
   nowhere_marked : Stands values n → ⊥
   nowhere_marked s =
       let inside : get_or values (s.0) 0 < length marks = subst (λ x. x < length marks) (sym (s.1.here)) least.within in
       let marked : get_or marks n false ≡ true = subst (λ x. get_or marks x false ≡ true) (s.1.here) (m.marked (s.0) (s.1.within) inside) in
-      false≢true (sym least.unmarked ∙ marked)
+      false≢true (sym least.breaks ∙ marked)

@@ -6,7 +6,7 @@ use Rattle.std.proofs.lemmas.Bool.{cases_eq, false≢true}
 use Rattle.pm_perm.specs.Count.{count_below}
 use Rattle.pm_perm.specs.Cycles.{repeated, leader, cycles, IsInCycle, IsLeastInCycle}
 use Rattle.pm_perm.specs.Permutation.{IsPermutationBelow, IsPermutationList}
-use Rattle.pm_perm.proofs.Counts.{count_below-same, count_below-without, count_below-bound}
+use Rattle.pm_perm.proofs.Counts.{count_below-same, count_below-without, count_below-bound, count_below-none}
 use Rattle.pm_perm.proofs.Repeats.{repeated-inside}
 use Rattle.pm_perm.proofs.LeaderMaps.{leader-map, leader_map-inside, leader_map-twice, leader-is_least}
 use Rattle.pm_perm.proofs.SameCycle.{in_cycle-back, in_cycle-leader}
@@ -222,13 +222,6 @@ MarksFaces-more sigma root start marks stack count marks1 stack1 structure m h r
 stands_nowhere : (d : ℕ) → Stands [] d → ⊥
 stands_nowhere d st = let h : st.0 < 0 = st.1.within in omega arith
 
--- where no number passes, none is counted
-count_below-none : (P : ℕ → Bool) (n : ℕ) → ((k : ℕ) → k < n → P k ≡ false) → count_below P n ≡ 0
-count_below-none P zero h = refl
-count_below-none P (suc n) h = none_step P n (h n (omega arith)) (count_below-none P n (λ k lt. h k (omega arith))) where
-  none_step : (P : ℕ → Bool) (n : ℕ) → P n ≡ false → count_below P n ≡ 0 → count_below P (suc n) ≡ 0
-  none_step P n h rest = grind arith
-
 -- no face is marked
 MarksFaces-none : (s : Structure) (marks : List Bool) → NoneMarked marks → MarksFaces s marks [] 0
 MarksFaces-none s marks none = record {
@@ -327,7 +320,7 @@ reached_from_marks s marks count size some search all = record {
 pub unreached_from_marks : (s : Structure) (marks : List Bool) (count d : ℕ) → IsStructure s → length marks ≡ s.darts → IsSearch s marks [] count → IsLeastUnmarked marks d → IsLeastUnreached s d
 unreached_from_marks s marks count d structure size search least = record {
   within = omega (arith, least.within);
-  unreached = record { holds = λ e. get_or marks e false; root = search.root; closed = marks_closed s marks count structure search; apart = least.unmarked };
+  breaks = record { holds = λ e. get_or marks e false; root = search.root; closed = marks_closed s marks count structure search; apart = least.breaks };
   least = λ e h. search.marked.reached e (least.least e h);
 }
 

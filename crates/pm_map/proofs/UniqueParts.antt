@@ -1,13 +1,15 @@
 -- There is one answer to a rotation and a root.
-use Rattle.std.proofs.Common.{◌≡◌, ℕ, ◌*◌, ◌≤◌, List, length, get_or, ℤ, Result, Ok, Err, inl, inr, refl, ap, sym, ◌∙◌, arith}
-use Rattle.std.proofs.lemmas.Bool.{cases_order, false≢true}
+use Rattle.std.proofs.Common.{◌≡◌, ℕ, ◌*◌, ◌≤◌, List, length, get_or, ℤ, Result, Ok, Err, refl, ap, sym, ◌∙◌, arith}
+use Rattle.std.proofs.lemmas.Bool.{false≢true}
 use Rattle.pm_limits.specs.declared.TheConstants.{MAX_EDGES}
 use Rattle.pm_perm.specs.Permutation.{IsPermutationList}
-use Rattle.pm_perm.proofs.Pigeonhole.{HasValue, HasValue-permutation}
+use Rattle.pm_perm.proofs.LeastLemmas.{least_is_unique}
+use Rattle.pm_perm.proofs.Permutations.{reached}
 use Rattle.pm_map.specs.declared.rooted_map.RootedMap.{RootedMap}
 use Rattle.pm_map.specs.declared.refusal.MapRefusal.{MapRefusal}
 use Rattle.pm_map.specs.declared.refusal.MapRefusal.TheVariants.{Memory, TooMany, NotPermutation, NotConnected, Genus}
 use Rattle.pm_map.specs.Structure.{Structure, IsConnected}
+use Rattle.pm_map.specs.Meeting.{Stands}
 use Rattle.pm_map.specs.Missing.{IsLeastMissing}
 use Rattle.pm_map.specs.Reached.{IsReached, IsUnreached, IsLeastUnreached}
 use Rattle.pm_map.specs.Rotation.{structure_of}
@@ -16,8 +18,8 @@ use Rattle.pm_map.specs.Parts.{HasTooMany, IsNoPermutation, IsNotConnected, HasG
 -- a permutation leaves out no number
 pub permutation_is_whole : (values : List ℕ) (n : ℕ) → IsPermutationList values → IsLeastMissing values n → ⊥
 permutation_is_whole values n permutes missing =
-    let v : HasValue (length values) (λ k. get_or values k 0) n = HasValue-permutation (length values) (λ k. get_or values k 0) n permutes missing.within in
-    missing.nowhere (v.at, record { within = v.within; here = v.is })
+    let found = reached (λ k. get_or values k 0) (length values) n permutes missing.within in
+    missing.breaks (found.from, record { within = found.below; here = found.value })
 
 -- no dart is both reached and not
 pub reached_or_unreached : (s : Structure) (d : ℕ) → IsReached s d → IsUnreached s d → ⊥
@@ -26,27 +28,15 @@ reached_or_unreached s d reached unreached = false≢true (sym unreached.apart �
 -- a connected structure has no dart that isn't reached
 pub connected_reaches : (s : Structure) (d : ℕ) → IsConnected s → IsLeastUnreached s d → ⊥
 connected_reaches s d connected least =
-    reached_or_unreached s d (λ holds root closed. connected holds root closed d least.within) least.unreached
+    reached_or_unreached s d (λ holds root closed. connected holds root closed d least.within) least.breaks
 
 -- a list leaves out one least number
 pub least_missing_is_unique : (values : List ℕ) (a b : ℕ) → IsLeastMissing values a → IsLeastMissing values b → a ≡ b
-least_missing_is_unique values a b p q =
-    elim (cases_order a b) [
-      | inl same ↦ same
-      | inr differs ↦ elim differs [ inl less ↦ absurd (p.nowhere (q.least a less)) | inr more ↦ absurd (q.nowhere (p.least b more)) ]
-    ]
+least_missing_is_unique values = least_is_unique (length values) (Stands values) (λ n. Stands values n → ⊥) (λ n stands not. not stands)
 
 -- a structure has one least dart that isn't reached
 pub least_unreached_is_unique : (s : Structure) (a b : ℕ) → IsLeastUnreached s a → IsLeastUnreached s b → a ≡ b
-least_unreached_is_unique s a b p q =
-    elim (cases_order a b) [
-      | inl same ↦ same
-      | inr differs ↦
-          elim differs [
-            | inl less ↦ absurd (reached_or_unreached s a (q.least a less) p.unreached)
-            | inr more ↦ absurd (reached_or_unreached s b (p.least b more) q.unreached)
-          ]
-    ]
+least_unreached_is_unique s = least_is_unique s.darts (IsReached s) (IsUnreached s) (reached_or_unreached s)
 
 not_few : (sigma : List ℕ) (edges : ℕ) → HasTooMany sigma edges → length sigma ≤ 2 * MAX_EDGES → ⊥
 not_few sigma edges h few = let counted = h.counted in let many = h.many in omega arith

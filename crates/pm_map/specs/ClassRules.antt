@@ -1,5 +1,6 @@
 -- The rules of the classes, and the first dart that breaks one.
 use Rattle.std.specs.Prelude.{◌≡◌, ℕ, ◌%◌, ◌<◌, ◌≤◌, length, Result, Ok, Err, ⊤}
+use Rattle.pm_perm.specs.Least.{IsLeast}
 use Rattle.pm_map.specs.declared.class_refusal.ClassRefusal.{ClassRefusal}
 use Rattle.pm_map.specs.declared.class_refusal.ClassRefusal.TheVariants.{Memory, Empty, TooMany, Vertex, Face, Loop, Double}
 use Rattle.pm_map.specs.declared.admitted.Degrees.{Degrees}
@@ -26,22 +27,16 @@ abbrev pub AllAdmitted : Structure → Degrees → Type 0
 AllAdmitted s degrees = (d : ℕ) → d < s.darts → HasAdmittedDegree s degrees d
 
 -- the least dart whose vertex has none of these degrees
-pub record IsLeastOther (s : Structure) (degrees : Degrees) (d : ℕ) : Type 0 where
-  pub within : d < s.darts
-  pub breaks : HasAdmittedDegree s degrees d → ⊥
-  pub least : (e : ℕ) → e < d → HasAdmittedDegree s degrees e
+abbrev pub IsLeastOther : Structure → Degrees → ℕ → Type 0
+IsLeastOther s degrees d = IsLeast s.darts (HasAdmittedDegree s degrees) (λ e. HasAdmittedDegree s degrees e → ⊥) d
 
 -- the least dart whose edge is a loop
-pub record IsLeastLoop (s : Structure) (d : ℕ) : Type 0 where
-  pub within : d < s.darts
-  pub breaks : IsLoop s d
-  pub least : (e : ℕ) → e < d → IsLoop s e → ⊥
+abbrev pub IsLeastLoop : Structure → ℕ → Type 0
+IsLeastLoop s d = IsLeast s.darts (λ e. IsLoop s e → ⊥) (IsLoop s) d
 
 -- the least dart whose edge has a double
-pub record IsLeastDouble (s : Structure) (d : ℕ) : Type 0 where
-  pub within : d < s.darts
-  pub breaks : IsDouble s d
-  pub least : (e : ℕ) → e < d → IsDouble s e → ⊥
+abbrev pub IsLeastDouble : Structure → ℕ → Type 0
+IsLeastDouble s d = IsLeast s.darts (λ e. IsDouble s e → ⊥) (IsDouble s) d
 
 -- What a map is answered that should be quartic: its size, or the first rule that it breaks. Want of memory may come at
 -- any map.

@@ -1,5 +1,6 @@
 -- Marks: a list of truth values that stands for a set of numbers.
 use Rattle.std.specs.Prelude.{◌≡◌, ℕ, ◌<◌, Bool, false, IsTrue, List, length, slice_index, slice_index_or}
+use Rattle.pm_perm.specs.Least.{IsLeast}
 use Rattle.pm_map.specs.Meeting.{Stands}
 
 -- the number is marked
@@ -15,10 +16,8 @@ abbrev pub NoneMarked : List Bool → Type 0
 NoneMarked marks = (n : ℕ) → slice_index_or marks n false ≡ false
 
 -- the least number that isn't marked
-pub record IsLeastUnmarked (marks : List Bool) (n : ℕ) : Type 0 where
-  pub within : n < length marks
-  pub unmarked : slice_index_or marks n false ≡ false
-  pub least : (k : ℕ) → k < n → IsMarked marks k
+abbrev pub IsLeastUnmarked : List Bool → ℕ → Type 0
+IsLeastUnmarked marks n = IsLeast (length marks) (IsMarked marks) (λ k. slice_index_or marks k false ≡ false) n
 
 -- the first values of the list are marked, as far as the marks go, and nothing but values of the list
 pub record MarksValues (values : List ℕ) (count : ℕ) (marks : List Bool) : Type 0 where

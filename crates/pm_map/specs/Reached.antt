@@ -1,5 +1,6 @@
 -- Which darts the root reaches under rotation and twin.
-use Rattle.std.specs.Prelude.{◌≡◌, ℕ, ◌<◌, Bool, false, IsTrue}
+use Rattle.std.specs.Prelude.{◌≡◌, ℕ, Bool, false, IsTrue}
+use Rattle.pm_perm.specs.Least.{IsLeast}
 use Rattle.pm_map.specs.Structure.{Structure, IsClosedSet}
 
 -- each closed set that holds the root holds the dart
@@ -14,7 +15,5 @@ pub record IsUnreached (s : Structure) (d : ℕ) : Type 0 where
   pub apart : holds d ≡ false
 
 -- the least dart that the root doesn't reach
-pub record IsLeastUnreached (s : Structure) (d : ℕ) : Type 0 where
-  pub within : d < s.darts
-  pub unreached : IsUnreached s d
-  pub least : (e : ℕ) → e < d → IsReached s e
+abbrev pub IsLeastUnreached : Structure → ℕ → Type 0
+IsLeastUnreached s d = IsLeast s.darts (IsReached s) (IsUnreached s) d

@@ -67,6 +67,6 @@ impl RootedMap {
         if euler != 2 {
             return Err(MapRefusal::Genus { euler });
         }
-        Ok(RootedMap::of_rotation(sigma, root))
+        Ok(RootedMap::from_rooted_rotation(sigma, root))
     }
 }

@@ -25,7 +25,7 @@ impl Model for RootedMap {
 
 impl RootedMap {
     /// The map with this rotation and this root, where they make a rooted map.
-    pub fn of_rotation(sigma: Vec<u32>, root: u32) -> RootedMap
+    pub fn from_rooted_rotation(sigma: Vec<u32>, root: u32) -> RootedMap
         requires { IsRootedMap (record { sigma = sigma.items; root = root }) }
         ensures { result ≡ record { sigma = sigma.items; root = root } }
     {

@@ -121,7 +121,7 @@ rotation_is_whole m sigma dart carries missing =
     let within : s.0 < length darts = omega (arith, s.1.within) in
     let permutes : IsPermutationList darts = standing_permutes darts (carried_stand darts turns sigma c) in
     let below : get_or darts s.0 0 < length darts = permutes.stays s.0 within in
-    missing.nowhere (get_or darts s.0 0, record { within = omega (arith, c.size); here = carries_places darts turns sigma c s.0 within ∙ s.1.here }) where
+    missing.breaks (get_or darts s.0 0, record { within = omega (arith, c.size); here = carries_places darts turns sigma c s.0 within ∙ s.1.here }) where
       length-turns : (vertices : List (List ℕ)) → length (concat (map turned vertices)) ≡ length (concat vertices)
       length-turns [] = refl
       length-turns (v ∷ vertices) = omega (arith, length-append (turned v) (concat (map turned vertices)), length-append v (concat vertices), length-turned v, length-turns vertices)

@@ -71,7 +71,7 @@ out_and_told : (m : MapLines) (limit dart : ℕ) (answer : Result RootedMap MapR
 out_and_told m limit dart answer h t =
     let is = t.is_rotation in
     let missing = h.missing in
-    missing.nowhere (is.stand dart (omega (arith, missing.within, is.size)))
+    missing.breaks (is.stand dart (omega (arith, missing.within, is.size)))
 
 told_alike : (m : MapLines) (limit : ℕ) (first second : Result RootedMap MapRefusal) → TellsRotation m limit first → TellsRotation m limit second
     → (first ≡ Err MemoryOfMap → ⊥) → (second ≡ Err MemoryOfMap → ⊥) → first ≡ second

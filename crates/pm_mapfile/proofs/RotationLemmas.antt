@@ -247,7 +247,7 @@ told_rotation darts sizes followers (Err (NotPermutation dart)) are told =
     let within : dart < length darts = omega (arith, told.within, are.size) in
     record {
       within = within;
-      nowhere = λ stands. not_followed darts (turned_lines sizes darts) (length darts) dart (get_or followers dart None) (are.each dart within) told.untold stands.0 stands.1.within stands.1.here;
+      breaks = λ stands. not_followed darts (turned_lines sizes darts) (length darts) dart (get_or followers dart None) (are.each dart within) told.untold stands.0 stands.1.within stands.1.here;
       least = λ n less.
           let value = told.before n less in
           let f = followed darts (turned_lines sizes darts) (length darts) n value.0 (get_or followers n None) (are.each n (omega arith)) value.1 in

@@ -3,8 +3,12 @@ use Rattle.std.proofs.Common.{◌≡◌, ℕ, ◌+◌, ◌<◌, ◌⊎◌, ◌�
 use Rattle.std.proofs.lemmas.Bool.{cases_eq}
 use Rattle.pm_perm.specs.Permutation.{IsPermutationList}
 use Rattle.pm_perm.specs.Lists.{Stands}
-use Rattle.pm_perm.proofs.Pigeonhole.{Places}
 use Rattle.pm_perm.proofs.Permutations.{IsReached}
+
+-- the numbers below the count are sent to different places below the size
+pub record Places (count size : ℕ) (f : ℕ → ℕ) : Type 0 where
+  pub stays : (k : ℕ) → k < count → f k < size
+  pub injective : (j k : ℕ) → j < count → k < count → f j ≡ f k → j ≡ k
 
 -- after so many entries
 pub record IsChecked (values : List ℕ) (count : ℕ) (marks : List Bool) (all : Bool) : Type 0 where

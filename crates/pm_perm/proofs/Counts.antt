@@ -1,5 +1,5 @@
 -- Counts of the numbers below a bound.
-use Rattle.std.proofs.Common.{◌≡◌, ◌≢◌, ℕ, zero, suc, ◌+◌, ◌<◌, ◌≤◌, Bool, true, false, ◌⊎◌, not, ◌&&◌, cond, eqb, if◌then◌else◌, refl, ap, inl, inr, arith}
+use Rattle.std.proofs.Common.{◌≡◌, ◌≢◌, ℕ, zero, suc, ◌+◌, ◌<◌, ◌≤◌, Bool, true, false, ◌⊎◌, not, ◌&&◌, cond, eqb, if◌then◌else◌, refl, ap, ◌∙◌, inl, inr, arith}
 use Rattle.std.proofs.lemmas.Bool.{cases_eq, cases_Bool}
 use Rattle.pm_perm.specs.Count.{count_below}
 
@@ -57,6 +57,28 @@ count_below-all P zero h = refl
 count_below-all P (suc n) h = all_step P n (h n (omega arith)) (count_below-all P n (λ k lt. h k (omega arith))) where
   all_step : (P : ℕ → Bool) (n : ℕ) → P n ≡ true → count_below P n ≡ n → count_below P (suc n) ≡ suc n
   all_step P n h rest = grind arith
+
+-- where none passes, none is counted
+pub count_below-none : (P : ℕ → Bool) (n : ℕ) → ((k : ℕ) → k < n → P k ≡ false) → count_below P n ≡ 0
+count_below-none P zero h = refl
+count_below-none P (suc n) h = let last = h n (omega arith) in let before = count_below-none P n (λ k less. h k (omega arith)) in rw (last, before) refl
+
+-- below a sum are those below the first number, and those from it on
+pub count_below-add : (P : ℕ → Bool) (a b : ℕ) → count_below P (a + b) ≡ count_below P a + count_below (λ k. P (a + k)) b
+count_below-add P a zero = let e : a + 0 ≡ a = omega arith in ap (count_below P) e ∙ plain (count_below P a) where
+  plain : (x : ℕ) → x ≡ x + 0
+  plain x = omega arith
+count_below-add P a (suc b) = let e : a + suc b ≡ suc (a + b) = omega arith in ap (count_below P) e ∙ step (count_below-add P a b) where
+  step : count_below P (a + b) ≡ count_below P a + count_below (λ k. P (a + k)) b → count_below P (suc (a + b)) ≡ count_below P a + count_below (λ k. P (a + k)) (suc b)
+  step h = omega (arith, h)
+
+-- one number is 0
+pub count_below-zero : (n : ℕ) → 0 < n → count_below (λ d. eqb 0 d) n ≡ 1
+count_below-zero zero h = absurd (omega arith)
+count_below-zero (suc zero) h = refl
+count_below-zero (suc (suc n)) h = more n (count_below-zero (suc n) (omega arith)) where
+  more : (n : ℕ) → count_below (λ d. eqb 0 d) (suc n) ≡ 1 → count_below (λ d. eqb 0 d) (suc (suc n)) ≡ 1
+  more n e = grind arith
 
 -- more numbers, more that pass
 pub count_below-grows : (P : ℕ → Bool) (m n : ℕ) → m ≤ n → count_below P m ≤ count_below P n

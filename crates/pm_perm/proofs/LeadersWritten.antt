@@ -4,7 +4,8 @@ use Rattle.std.proofs.lemmas.Bool.{cases_eq, cases_lt}
 use Rattle.pm_perm.specs.Count.{count_below}
 use Rattle.pm_perm.specs.Permutation.{IsPermutationList}
 use Rattle.pm_perm.specs.Cycles.{leader}
-use Rattle.pm_perm.specs.Lists.{IsLeaderList, IsLedBelow, IsMarkedBelow}
+use Rattle.pm_perm.specs.Lists.{IsLeaderList}
+use Rattle.pm_perm.specs.steps.Leading.{IsLedBelow, IsMarkedBelow}
 use Rattle.pm_perm.proofs.LeaderMaps.{IsLeaderMap, leader-map, leader-is_least}
 use Rattle.pm_perm.proofs.Walks.{IsWalking, walking-start, walking-step, walking-end, marked-skip, count_below-falls}
 

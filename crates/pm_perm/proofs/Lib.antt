@@ -2,9 +2,11 @@ pub mod BothNested
 pub mod Checks
 pub mod Counts
 pub mod EvenCounts
+pub mod CycleLists
 pub mod InverseLemmas
 pub mod LeaderMaps
 pub mod LeadersWritten
+pub mod LeastLemmas
 pub mod Merged
 pub mod Nested
 pub mod PairCounts
@@ -12,7 +14,6 @@ pub mod PartMaps
 pub mod PartPairs
 pub mod Parted
 pub mod Permutations
-pub mod Pigeonhole
 pub mod PlacesWritten
 pub mod Renumbered
 pub mod Repeats

@@ -7,10 +7,11 @@ use Rattle.pm_perm.specs.Cycles.{repeated, leader, cycles, IsInCycle}
 use Rattle.pm_perm.specs.Exchange.{IsExchangeBelow}
 use Rattle.pm_perm.specs.Pairs.{IsInvolutionBelow, pairs}
 use Rattle.pm_perm.specs.PartMap.{PartMap, IsPartMap, part_face, part_vertices, part_edges, part_faces, IsPartClosed, ReachesAll, IsPartConnected, IsJoined, CarriesPart}
-use Rattle.pm_perm.specs.PartMapLaws.{JoinedCounts, JoinKeeps, CutKeeps, RenumberingKeeps}
+use Rattle.pm_perm.specs.PartMapLaws.{JoinedCounts, JoinLaw, JoinSplitsFace, CutLaw, CutMergesFaces, OtherFacesStay, RenumberingKeeps}
 use Rattle.pm_perm.proofs.InverseLemmas.{place_of, place_of-permutes, value-place_of}
 use Rattle.pm_perm.proofs.Repeats.{repeated-inside}
-use Rattle.pm_perm.proofs.SameCycle.{leader-in_cycle, cycles-same}
+use Rattle.pm_perm.proofs.SameCycle.{in_cycle-leader, leader-in_cycle, cycles-same}
+use Rattle.pm_perm.proofs.CycleLists.{cycle-left, cycle-splits, cycles-join}
 use Rattle.pm_perm.proofs.Merged.{exchange-back, exchange-permutes, IsMerged, exchange-merges}
 use Rattle.pm_perm.proofs.Parted.{exchange-parts}
 use Rattle.pm_perm.proofs.Renumbered.{cycles-renumbered, product-permutes}
@@ -201,10 +202,12 @@ renumbering-law rename a b pa pb c =
     record { vertices = counts.vertices; edges = counts.edges; faces = counts.faces; connected = renumber-connected rename a b c }
 
 -- The join law.
-pub join-law : (parted joined : PartMap) (x y : ℕ) → IsPartMap parted → IsJoined parted joined x y
-    → leader parted.darts (part_face parted) x ≡ leader parted.darts (part_face parted) y → JoinKeeps parted joined
-join-law m m' x y p j one =
+pub join-law : JoinLaw
+join-law m m' x y p j met =
     let parts : IsPermutationBelow m.darts m'.next × IsInvolutionBelow m.darts m'.twin = joined-part_map m m' x y p j in
+    let f : IsPermutationBelow m.darts (part_face m) = part_face-permutes m p in
+    let swapped : IsExchangeBelow m.darts (part_face m) (part_face m') x y = joined-exchange m m' x y p j in
+    let one = in_cycle-leader m.darts (part_face m) f x y j.first met in
     record {
       is_part_map = record {
         rotation = let P : ℕ → Type 0 = λ n. IsPermutationBelow n m'.next in subst P j.same_darts parts.0;
@@ -212,7 +215,17 @@ join-law m m' x y p j one =
       };
       counts = join-counts m m' x y p j one;
       connected = join-connected m m' x y j;
+      two_faces = λ still. exchange-parts m.darts (part_face m) (part_face m') x y f j.first j.second swapped j.differ one
+          (in_cycle-leader m.darts (part_face m') (exchange-permutes m.darts (part_face m) (part_face m') x y f j.first j.second swapped) x y j.first still);
     }
+
+pub join-splits_face : JoinSplitsFace
+join-splits_face m m' x y first second p j c =
+    cycle-splits m.darts (part_face m) (part_face m') x y first second (part_face-permutes m p) j.first (joined-exchange m m' x y p j) c
+
+pub other-faces_stay : OtherFacesStay
+other-faces_stay m m' x y d face p j h not_x not_y =
+    cycle-left m.darts (part_face m) (part_face m') x y d face (part_face-permutes m p) j.first j.second h (joined-exchange m m' x y p j) not_x not_y
 
 -- the cut part map is one
 pub parted-part_map : (m m' : PartMap) (x y : ℕ) → IsPartMap m' → IsJoined m m' x y → IsPartMap m
@@ -248,10 +261,22 @@ parted-part_map m m' x y p j =
     }
 
 -- The cut law.
-pub cut-law : (parted joined : PartMap) (x y : ℕ) → IsPartMap joined → IsJoined parted joined x y
-    → (leader joined.darts (part_face joined) x ≡ leader joined.darts (part_face joined) y → ⊥) → CutKeeps parted joined
+pub cut-law : CutLaw
 cut-law m m' x y p j apart =
     let q : IsPartMap m = parted-part_map m m' x y p j in
-    let apart' : leader m.darts (part_face m') x ≡ leader m.darts (part_face m') y → ⊥ = λ e.
-    apart (ap (λ n. leader n (part_face m') x) (sym j.same_darts) ∙ e ∙ ap (λ n. leader n (part_face m') y) j.same_darts) in
-    record { is_part_map = q; counts = cut-counts m m' x y q j apart'; connected = cut-connected m m' x y q j apart' }
+    let f : IsPermutationBelow m.darts (part_face m) = part_face-permutes m q in
+    let f' : IsPermutationBelow m.darts (part_face m') = exchange-permutes m.darts (part_face m) (part_face m') x y f j.first j.second (joined-exchange m m' x y q j) in
+    let apart' : leader m.darts (part_face m') x ≡ leader m.darts (part_face m') y → ⊥ = λ e. apart (leader-in_cycle m.darts (part_face m') f' x y j.first j.second e) in
+    record {
+      is_part_map = q;
+      counts = cut-counts m m' x y q j apart';
+      connected = cut-connected m m' x y q j apart';
+      one_face = leader-in_cycle m.darts (part_face m) f x y j.first j.second (cut-one_face m m' x y q j apart');
+    }
+
+pub cut-merges_faces : CutMergesFaces
+cut-merges_faces m m' x y first second p j apart of_x of_y =
+    let q : IsPartMap m = parted-part_map m m' x y p j in
+    let swapped : IsExchangeBelow m.darts (part_face m) (part_face m') x y = joined-exchange m m' x y q j in
+    let f' : IsPermutationBelow m.darts (part_face m') = exchange-permutes m.darts (part_face m) (part_face m') x y (part_face-permutes m q) j.first j.second swapped in
+    cycles-join m.darts (part_face m') (part_face m) x y first second f' j.first j.second (exchange-back m.darts (part_face m) (part_face m') x y swapped) apart of_x of_y

@@ -1,4 +1,5 @@
--- Permutations of the numbers below a bound.
+-- Permutations of the numbers below a bound: each is a value of theirs, and numbers that go to different places are no more
+-- than the places.
 use Rattle.std.proofs.Common.{◌≡◌, ◌≢◌, ℕ, zero, suc, ◌<◌, ◌≤◌, ◌⊎◌, inl, inr, true, not, eqb, refl, arith}
 use Rattle.std.proofs.lemmas.Bool.{cases_eq}
 use Rattle.pm_perm.specs.Permutation.{IsPermutationBelow}

@@ -2,12 +2,11 @@
 use Rattle.std.proofs.Common.{◌%◌, ◌≡◌, ℕ, zero, suc, ◌<◌, ◌≤◌, inl, inr, eqb, sym, ap, ◌∙◌, refl, eq-eqb, arith}
 use Rattle.std.proofs.Math.Nat.{mod-eq_of_lt, mod_self}
 use Rattle.std.proofs.lemmas.Bool.{cases_eq, eqb-true}
-use Rattle.pm_perm.specs.Count.{count_below}
 use Rattle.pm_perm.specs.Permutation.{IsPermutationBelow}
 use Rattle.pm_perm.specs.Cycles.{leader, cycles}
 use Rattle.pm_perm.specs.Exchange.{IsProductBelow}
 use Rattle.pm_perm.specs.Pairs.{IsRingBelow}
-use Rattle.pm_perm.proofs.Counts.{count_below-into}
+use Rattle.pm_perm.proofs.Counts.{count_below-into, count_below-zero}
 use Rattle.pm_perm.proofs.InverseLemmas.{place_of, place_of-permutes, value-place_of, place_of-of_value}
 use Rattle.pm_perm.proofs.LeaderMaps.{IsKeptBelow, IsLeaderMap, leader-map, leader_maps-agree, leader_map-inside, leader_map-twice, cycles-count}
 
@@ -120,16 +119,10 @@ ring_kept n f value r kept (suc k) h =
 pub ring-map : (n : ℕ) (f : ℕ → ℕ) → IsRingBelow n f → IsLeaderMap n f (λ _. 0)
 ring-map n f r = record { least = λ k h. omega arith; along = λ k h. refl; joins = λ value kept k h. ring_kept n f value r kept k h }
 
-one_zero : (n : ℕ) → count_below (λ d. eqb 0 d) (suc n) ≡ 1
-one_zero zero = refl
-one_zero (suc n) = zero_step n (one_zero n) where
-  zero_step : (n : ℕ) → count_below (λ d. eqb 0 d) (suc n) ≡ 1 → count_below (λ d. eqb 0 d) (suc (suc n)) ≡ 1
-  zero_step n h = grind arith
-
 -- the ring has one cycle
 pub cycles-ring : (n : ℕ) (f : ℕ → ℕ) → 0 < n → IsRingBelow n f → cycles n f ≡ 1
 cycles-ring zero f h r = absurd (omega arith)
-cycles-ring (suc n) f h r = cycles-count (suc n) f (λ _. 0) (ring-permutes (suc n) f r) (ring-map (suc n) f r) ∙ one_zero n
+cycles-ring (suc n) f h r = cycles-count (suc n) f (λ _. 0) (ring-permutes (suc n) f r) (ring-map (suc n) f r) ∙ count_below-zero (suc n) h
 
 -- the same, of a bare equation
 pub cycles-carried : (n : ℕ) (p f g : ℕ → ℕ) → IsPermutationBelow n p → IsPermutationBelow n f → IsPermutationBelow n g → ((k : ℕ) → k < n → p (f k) ≡ g (p k)) → cycles n f ≡ cycles n g

@@ -4,7 +4,7 @@ use Rattle.std.proofs.lemmas.Bool.{cases_eq, cases_lt, ltb-false, ltb-true}
 use Rattle.pm_perm.specs.Count.{count_below}
 use Rattle.pm_perm.specs.Permutation.{IsPermutationBelow, IsPermutationList}
 use Rattle.pm_perm.specs.Cycles.{repeated, leader, cycles, IsInCycle}
-use Rattle.pm_perm.specs.Lists.{IsMarkedBelow}
+use Rattle.pm_perm.specs.steps.Leading.{IsMarkedBelow}
 use Rattle.pm_perm.proofs.Counts.{count_below-same, count_below-without, count_below-bound}
 use Rattle.pm_perm.proofs.Repeats.{repeated-inside}
 use Rattle.pm_perm.proofs.LeaderMaps.{IsLeaderMap, leader-map, leader_map-twice}

@@ -1,9 +1,13 @@
 -- The laws of cycles.
 use Rattle.std.specs.Prelude.{◌≡◌, ◌↔◌, ℕ, ◌+◌, ◌<◌, ◌≤◌, cond, eqb}
 use Rattle.pm_perm.specs.Permutation.{IsPermutationBelow}
-use Rattle.pm_perm.specs.Cycles.{leader, cycles}
+use Rattle.pm_perm.specs.Cycles.{leader, cycles, IsInCycle}
 use Rattle.pm_perm.specs.Exchange.{IsExchangeBelow, IsProductBelow}
 use Rattle.pm_perm.specs.Pairs.{IsRingBelow, IsInvolutionBelow, IsNestedBelow, pairs}
+
+-- two numbers are in one cycle of a permutation exactly where they have one leader
+abbrev pub LeadersTellCycles : Type 0
+LeadersTellCycles = (n : ℕ) (f : ℕ → ℕ) (a b : ℕ) → IsPermutationBelow n f → a < n → b < n → (IsInCycle f a b ↔ (leader n f a ≡ leader n f b))
 
 -- The cycles after the exchange of the values at a and b, and two more where a and b were in different cycles, are the
 -- cycles before and one more; where a and b are one number, nothing changes.

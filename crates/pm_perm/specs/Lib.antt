@@ -1,9 +1,12 @@
 pub mod Count
+pub mod CycleList
 pub mod CycleLaws
 pub mod Cycles
 pub mod Exchange
+pub mod Least
 pub mod Lists
 pub mod Pairs
 pub mod PartMap
 pub mod PartMapLaws
 pub mod Permutation
+pub mod steps

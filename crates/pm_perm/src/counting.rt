@@ -2,7 +2,7 @@
 ghost use Rattle.std.specs.Prelude.{◌≡◌, ◌+◌, ◌^◌, ◌<◌, false, length, slice_index, slice_index_or};
 ghost use Rattle.pm_perm.specs.Permutation.{IsPermutationList};
 ghost use Rattle.pm_perm.specs.Cycles.{cycles};
-ghost use Rattle.pm_perm.specs.Lists.{IsMarkedBelow};
+ghost use Rattle.pm_perm.specs.steps.Leading.{IsMarkedBelow};
 
 /// The number of cycles of a permutation of fewer than 2^32 numbers. There are as many marks as entries; what is left
 /// in them is free.

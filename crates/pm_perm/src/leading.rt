@@ -1,7 +1,8 @@
 //! The leaders of a permutation.
 ghost use Rattle.std.specs.Prelude.{◌≡◌, ℕ, ◌+◌, ◌^◌, ◌<◌, not, eqb, length, slice_index, IfOk};
 ghost use Rattle.pm_perm.specs.Permutation.{IsPermutationList};
-ghost use Rattle.pm_perm.specs.Lists.{IsLeaderList, IsLedBelow};
+ghost use Rattle.pm_perm.specs.Lists.{IsLeaderList};
+ghost use Rattle.pm_perm.specs.steps.Leading.{IsLedBelow};
 
 use std::alloc::{AllocError, Global};
 

@@ -12,8 +12,8 @@ renamed-requires-clause-names c =
     c.sigma-sigma.ensures.valid c.sigma-sigma.ensures.sigma c.root.ensures c.in_ok-darts.ensures c.deref.ensures.value c.in_ok-names.ensures.size c.in_ok-names.ensures.names c.deref-2.ensures.value in
     subst (λ n. IsPermutationBelow n (slice_index c.deref-2.result.now)) (sym numbered.size) (names_permute _ _ _ numbered)
 
-pub of_rotation-requires : goal.of_rotation-requires
-of_rotation-requires c =
+pub from_rooted_rotation-requires : goal.from_rooted_rotation-requires
+from_rooted_rotation-requires c =
     let numbered : IsNumbered c.args.map.now c.deref.result.now c.deref-2.result.now =
     IsNumbered-from c.args.map.now c.sigma-sigma.result.now c.root.result c.in_ok-darts.darts.items c.deref.result.now c.in_ok-names.names.items c.deref-2.result.now
     c.sigma-sigma.ensures.valid c.sigma-sigma.ensures.sigma c.root.ensures c.in_ok-darts.ensures c.deref.ensures.value c.in_ok-names.ensures.size c.in_ok-names.ensures.names c.deref-2.ensures.value in
@@ -24,5 +24,5 @@ returns c =
     let numbered : IsNumbered c.args.map.now c.deref.result.now c.deref-2.result.now =
     IsNumbered-from c.args.map.now c.sigma-sigma.result.now c.root.result c.in_ok-darts.darts.items c.deref.result.now c.in_ok-names.names.items c.deref-2.result.now
     c.sigma-sigma.ensures.valid c.sigma-sigma.ensures.sigma c.root.ensures c.in_ok-darts.ensures c.deref.ensures.value c.in_ok-names.ensures.size c.in_ok-names.ensures.names c.deref-2.ensures.value in
-    rw c.of_rotation.ensures
+    rw c.from_rooted_rotation.ensures
     (renamed_is_canonical _ _ _ _ numbered (subst (λ l. IsRenamed c.deref-2.result.now l c.in_ok-renamed.renamed.items) c.sigma-sigma.ensures.sigma c.in_ok-renamed.ensures))

@@ -34,8 +34,8 @@ levels_of-requires-clause-permutation c =
     darts_permute c.deref.result.now c.deref-3.result.now twinning (ap length c.deref-3.ensures.value ∙ c.in_ok-darts.ensures.length)
     (λ p l. ap (λ (xs : List ℕ). slice_index xs p) c.deref-3.ensures.value ∙ c.in_ok-darts.ensures.each p l)
 
-pub of_rotation-requires : goal.of_rotation-requires
-of_rotation-requires c =
+pub from_rooted_rotation-requires : goal.from_rooted_rotation-requires
+from_rooted_rotation-requires c =
     let made = is_made (contour c.args.tree.now) c.args.across.now c.args.across.now c.in_ok-twins.twins.items c.deref.result.now c.in_ok-darts.darts.items
     c.deref-2.result.now c.in_ok-sigma.sigma.items c.args.pairing.now refl c.deref.ensures.value c.deref-2.ensures.value
     c.requires.bracketing c.requires.pairing c.in_ok-twins.ensures c.in_ok-darts.ensures.length c.in_ok-darts.ensures.each c.in_ok-sigma.ensures.length c.in_ok-sigma.ensures.each in
@@ -46,5 +46,5 @@ returns c =
     let made = is_made (contour c.args.tree.now) c.args.across.now c.args.across.now c.in_ok-twins.twins.items c.deref.result.now c.in_ok-darts.darts.items
     c.deref-2.result.now c.in_ok-sigma.sigma.items c.args.pairing.now refl c.deref.ensures.value c.deref-2.ensures.value
     c.requires.bracketing c.requires.pairing c.in_ok-twins.ensures c.in_ok-darts.ensures.length c.in_ok-darts.ensures.each c.in_ok-sigma.ensures.length c.in_ok-sigma.ensures.each in
-    made_closes _ _ _ _ _ _ made c.letters-letters.result.now c.in_ok-levels.levels c.of_rotation.result c.of_rotation.ensures c.requires.balanced (omega arith) (ap contour (sym c.letters-letters.ensures.letters))
+    made_closes _ _ _ _ _ _ made c.letters-letters.result.now c.in_ok-levels.levels c.from_rooted_rotation.result c.from_rooted_rotation.ensures c.requires.balanced (omega arith) (ap contour (sym c.letters-letters.ensures.letters))
     (subst (λ (xs : List ℕ). AreLevelsAt c.letters-letters.result.now xs c.in_ok-levels.levels) (c.deref-3.ensures.value ∙ sym c.deref-2.ensures.value) c.in_ok-levels.ensures)

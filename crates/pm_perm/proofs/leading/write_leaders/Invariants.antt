@@ -1,4 +1,4 @@
-use Rattle.pm_perm.specs.Lists.{IsLedBelow}
+use Rattle.pm_perm.specs.steps.Leading.{IsLedBelow}
 use Rattle.pm_perm.proofs.leading.write_leaders.Given as goal
 
 abbrev pub invariant-starts : goal.invariant-starts

@@ -8,8 +8,8 @@ use Rattle.pm_map.proofs.EulerLemmas.{euler_two, euler_other}
 use Rattle.pm_map.proofs.TwinLemmas.{structure_of_parts}
 use Rattle.pm_map.proofs.rooted_map.RootedMap.from_rotation.Goals as goal
 
-pub of_rotation-requires : goal.of_rotation-requires
-of_rotation-requires c =
+pub from_rooted_rotation-requires : goal.from_rooted_rotation-requires
+from_rooted_rotation-requires c =
     let same : c.deref.result.now ≡ c.args.sigma.items = search rules in
     let there = structure_of (record { sigma = c.deref.result.now; root = c.args.root }) in
     let answer : IsReachedWhole there c.in-Everywhere.faces = subst (λ r. IsReachAnswer there r) c.in-Everywhere.is c.in_ok-faces.ensures in
