@@ -11,6 +11,7 @@ pub mod DegreeTotals
 pub mod DegreesTaken
 pub mod DistanceLemmas
 pub mod DistanceRounds
+pub mod DistancesBack
 pub mod DualMaps
 pub mod EdgeNumbering
 pub mod EulerLemmas
@@ -19,6 +20,7 @@ pub mod MarksLemmas
 pub mod NumberedEdges
 pub mod SameMaps
 pub mod SearchLemmas
+pub mod SimpleDarts
 pub mod SimpleLemmas
 pub mod StandsLemmas
 pub mod TableLemmas

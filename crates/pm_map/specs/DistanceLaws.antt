@@ -17,3 +17,7 @@ EachFaceHasDistance = (s : Structure) → IsStructure s → IsConnected s
 abbrev pub DistancesAreCarried : Type 0
 DistancesAreCarried = (a b : Structure) (rename : ℕ → ℕ) → IsStructure a → IsStructure b → CarriesTo rename a b
     → (d e distance : ℕ) → d < a.darts → e < a.darts → IsFaceDistance a d e distance → IsFaceDistance b (rename d) (rename e) distance
+
+-- a face is as far from another as that from it
+abbrev pub DistanceIsSymmetric : Type 0
+DistanceIsSymmetric = (s : Structure) (d e distance : ℕ) → IsStructure s → d < s.darts → e < s.darts → IsFaceDistance s d e distance → IsFaceDistance s e d distance

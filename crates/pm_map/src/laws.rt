@@ -1,7 +1,7 @@
 ghost use Rattle.std.specs.Prelude.{ℕ, List};
 ghost use Rattle.pm_map.specs.CanonicalLaws.{CanonicalIsRooted, CanonicalIsUnique, CanonicalTellsMaps};
-ghost use Rattle.pm_map.specs.ClassLaws.{DegreeCountsDarts};
-ghost use Rattle.pm_map.specs.DistanceLaws.{LevelsAreDistances, EachFaceHasDistance, DistancesAreCarried};
+ghost use Rattle.pm_map.specs.ClassLaws.{DartsTellSimple, DegreeCountsDarts};
+ghost use Rattle.pm_map.specs.DistanceLaws.{DistanceIsSymmetric, DistancesAreCarried, EachFaceHasDistance, LevelsAreDistances};
 ghost use Rattle.pm_map.specs.Classes.{IsBipartite, IsEulerian, IsGeneral, IsQuartic, IsTriangulation};
 ghost use Rattle.pm_map.specs.DualLaws.{DualExchangesCounts, DualIsRooted, DualIsStructure, DualTwiceIsSame, DualsTell, FaceDegreeCountsDarts};
 ghost use Rattle.pm_map.specs.Parts.{HasOneMapAnswer};
@@ -28,12 +28,18 @@ pub fn degree_counts_darts()
     ensures { DegreeCountsDarts }
 {}
 
+/// A map is simple exactly where no dart's edge is a loop and none has a double; nothing is computed.
+pub fn darts_tell_simple()
+    ensures { DartsTellSimple }
+{}
+
 /// What face distances are, as a law to call upon; nothing is computed. Numbers for the darts are levels of the faces
-/// exactly where they are the distances from the root's face; in a connected structure each face has such a distance;
-/// and a renumbering of the darts keeps the distances.
+/// exactly where they are the distances from the root's face; in a connected structure each face has such a distance; a
+/// face is as far from another as that from it; and a renumbering of the darts keeps the distances.
 pub fn face_levels_are_distances()
     ensures levels { LevelsAreDistances }
     ensures each { EachFaceHasDistance }
+    ensures symmetric { DistanceIsSymmetric }
     ensures carried { DistancesAreCarried }
 {}
 

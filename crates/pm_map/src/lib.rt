@@ -24,7 +24,7 @@ pub use counting::Counts;
 pub use edge_numbers::darts_of;
 pub use face_walk::FaceWalk;
 pub use laws::{
-    canonical_is_unique, classes_are_kept, degree_counts_darts, dual_is_a_map,
+    canonical_is_unique, classes_are_kept, darts_tell_simple, degree_counts_darts, dual_is_a_map,
     face_levels_are_distances, map_answer_is_unique, same_is_equivalence,
 };
 pub use refusal::MapRefusal;
