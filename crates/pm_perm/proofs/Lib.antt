@@ -3,6 +3,7 @@ pub mod Checks
 pub mod Counts
 pub mod EvenCounts
 pub mod CycleLists
+pub mod Interleaved
 pub mod InverseLemmas
 pub mod LeaderMaps
 pub mod LeadersWritten

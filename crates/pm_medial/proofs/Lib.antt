@@ -1,0 +1,3 @@
+pub mod MedialCounts
+pub mod MedialSame
+pub mod MedialStructure

@@ -1,0 +1,2 @@
+pub mod Medial
+pub mod MedialLaws

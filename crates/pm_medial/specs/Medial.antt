@@ -1,0 +1,27 @@
+-- The medial structure of a structure: a vertex of degree 4 for each edge; two edges that follow each other around a vertex
+-- are joined (Tutte 1963).
+use Rattle.std.specs.Prelude.{◌≡◌, ℕ, suc, ◌*◌, ◌<◌}
+use Rattle.pm_map.specs.Structure.{Structure, Same}
+use Rattle.pm_map.specs.Rotation.{RotationSystem, structure_of, IsRootedMap}
+
+-- Each dart d gives two darts, its plus and its minus. Around the vertex of an edge stand the plus of d, the minus of d, the
+-- plus of the twin of d and the minus of that twin. The twin of the plus of d is the minus of the dart after d. The root is
+-- the plus of the root. The plus of d is named 2d, and the minus of the dart after d, its twin, 2d+1.
+pub record IsMedialOf (s medial : Structure) : Type 0 where
+  pub darts : medial.darts ≡ 2 * s.darts
+  pub after_plus : (d : ℕ) → d < s.darts → medial.next (2 * s.next d) ≡ suc (2 * d)
+  pub after_minus : (d : ℕ) → d < s.darts → medial.next (suc (2 * d)) ≡ 2 * s.twin (s.next d)
+  pub twin_of_plus : (d : ℕ) → d < s.darts → medial.twin (2 * d) ≡ suc (2 * d)
+  pub twin_of_minus : (d : ℕ) → d < s.darts → medial.twin (suc (2 * d)) ≡ 2 * d
+  pub root : medial.root ≡ 2 * s.root
+
+-- the map has the medial structure of the other
+abbrev pub IsMedialMap : RotationSystem → RotationSystem → Type 0
+IsMedialMap map medial = IsMedialOf (structure_of map) (structure_of medial)
+
+-- an unmedial of a structure: a rooted map whose medial structure is the same as this one
+pub record IsUnmedialOf (s : Structure) (map : RotationSystem) : Type 0 where
+  pub rooted : IsRootedMap map
+  pub medial : Structure
+  pub is_medial : IsMedialOf (structure_of map) medial
+  pub is_same : Same s medial

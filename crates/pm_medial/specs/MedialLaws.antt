@@ -1,0 +1,25 @@
+-- The laws of medial structures.
+use Rattle.std.specs.Prelude.{◌≡◌, ◌↔◌, ℕ, ◌+◌, ◌*◌, ◌<◌}
+use Rattle.pm_map.specs.Structure.{Structure, IsStructure, IsConnected, Same}
+use Rattle.pm_map.specs.Plane.{IsPlane, vertices, edges, faces}
+use Rattle.pm_map.specs.Classes.{IsQuartic}
+use Rattle.pm_medial.specs.Medial.{IsMedialOf}
+
+-- the medial structure of a plane structure with a dart is quartic, and so plane; its size is the number of edges
+abbrev pub MedialIsQuartic : Type 0
+MedialIsQuartic = (s medial : Structure) → IsPlane s → 0 < s.darts → IsMedialOf s medial → IsQuartic medial (edges s)
+
+-- it has a vertex for each edge, twice as many edges, and a face for each vertex and each face
+pub record AreMedialCounts (s medial : Structure) : Type 0 where
+  pub vertices_are : vertices medial ≡ edges s
+  pub edges_are : edges medial ≡ 2 * edges s
+  pub faces_are : faces medial ≡ vertices s + faces s
+
+abbrev pub MedialCounts : Type 0
+MedialCounts = (s medial : Structure) → IsPlane s → 0 < s.darts → IsMedialOf s medial → AreMedialCounts s medial
+
+-- two connected structures are the same exactly where their medial structures are
+abbrev pub MedialsTell : Type 0
+MedialsTell =
+    (a b a_medial b_medial : Structure) → IsStructure a → IsStructure b → IsConnected a → IsMedialOf a a_medial → IsMedialOf b b_medial
+    → (Same a b ↔ Same a_medial b_medial)
