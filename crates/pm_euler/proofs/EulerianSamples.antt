@@ -25,7 +25,7 @@ use Rattle.pm_euler.proofs.ClosedAnew.{HasClosure, closed_anew}
 use Rattle.pm_euler.proofs.ClosedMaps.{canonical_closure_is_rooted}
 use Rattle.pm_euler.proofs.EulerianBounds.{arrangement_long, arrangement_is_valid, rank_is_valid, free_is_valid, eulerian_residue_is_valid}
 use Rattle.pm_euler.proofs.ObjectLemmas.{HasObjects, halves_are, halves_some, halves_few}
-use Rattle.pm_euler.proofs.OneSample.{anew_alike, anew_balances, closed_anew_once, old_plant_few}
+use Rattle.pm_euler.proofs.OneSample.{anew_alike, anew_balances, anew_blossoms, closed_anew_once, old_plant_few}
 use Rattle.pm_euler.proofs.PlaneLaws.{plane_planted_blossoming, plane_planted_leaves, plane_planted_nodes, plane_planted_no_odd}
 use Rattle.pm_euler.proofs.PlaneTrees.{plane_planted_exists, plane_planted_unique}
 use Rattle.pm_euler.proofs.Preorders.{HasPreorder, IsPreorder, preorder_exists, preorder_is, one_preorder}
@@ -124,6 +124,8 @@ eulerian_sampled pairs choices start objects word turned old_plant map residue i
         is_closed = closed;
         residue_is = residue_is;
       };
+      rooted = canonical_closure_is_rooted turned map (anew_blossoms word (slice_index choices (suc (edges_of pairs) + nodes_of_profile pairs)) turned old_plant tree anew)
+          (anew_balances word (slice_index choices (suc (edges_of pairs) + nodes_of_profile pairs)) turned old_plant tree anew) closed;
       canonical = closed.is_canonical.is_canonical;
       in_class = sampled_class pairs (take (nodes_of_profile pairs) (drop (suc (edges_of pairs)) choices)) objects word (slice_index choices (suc (edges_of pairs) + nodes_of_profile pairs)) turned old_plant map is tree p.has planted anew closed;
       valid_residue = subst (λ (r : List ℕ). IsValidList r (eulerian_residues pairs)) (sym residue_is)

@@ -2,6 +2,7 @@
 use Rattle.std.proofs.Common.{◌≡◌, ℕ, ◌*◌, ◌/◌, ◌<◌, ◌≤◌, Ok, Err, false, eqb, length, refl, sym, ◌∙◌, ap, subst, arith}
 use Rattle.std.specs.Prelude.{slice_index}
 use Rattle.std.proofs.lemmas.Bool.{ne_eqb}
+use Rattle.pm_limits.specs.declared.TheConstants.{MAX_EDGES}
 use Rattle.pm_map.specs.Structure.{Structure, IsStructure}
 use Rattle.pm_map.specs.Plane.{vertices}
 use Rattle.pm_map.specs.Rotation.{RotationSystem, structure_of, IsRootedMap}
@@ -42,7 +43,7 @@ pub quartic_size : (m : RotationSystem) (n : ℕ) → IsRootedMap m → IsQuarti
 quartic_size m n rooted is =
     let four : 4 * vertices (structure_of m) ≡ length m.sigma = four_each (structure_of m) rooted.structure is.some is.degrees in
     numbers (vertices (structure_of m)) (length m.sigma) n four is.count is.some rooted.few where
-      numbers : (v darts n : ℕ) → 4 * v ≡ darts → v ≡ n → 0 < darts → darts ≤ 2 * 4194304 → IsQuarticSize n
+      numbers : (v darts n : ℕ) → 4 * v ≡ darts → v ≡ n → 0 < darts → darts ≤ 2 * MAX_EDGES → IsQuarticSize n
       numbers v darts n four count some few = record { some = omega arith; few = omega arith }
 
 pub size_where_answered : IsSizeWhereAnswered IsQuarticSize (λ n m. IsQuartic (structure_of m) n) IsQuarticAnswer

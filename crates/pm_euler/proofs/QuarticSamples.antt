@@ -9,7 +9,7 @@ use Rattle.pm_remy.specs.Growth.{grown}
 use Rattle.pm_remy.proofs.Grown.{counted-grown}
 use Rattle.pm_remy.proofs.Once.{counted-leaves}
 use Rattle.pm_trees.specs.Blossoming.{IsBlossoming}
-use Rattle.pm_map.specs.Rotation.{RotationSystem, structure_of}
+use Rattle.pm_map.specs.Rotation.{RotationSystem, IsRootedMap, structure_of}
 use Rattle.pm_map.specs.Classes.{IsQuartic}
 use Rattle.pm_euler.specs.Bounds.{quartic_choices, quartic_residues}
 use Rattle.pm_euler.specs.Planted.{IsPlanted}
@@ -22,8 +22,8 @@ use Rattle.pm_euler.proofs.BoundLemmas.{length-quartic_choices, growth_is_valid,
 use Rattle.pm_euler.proofs.PlantingTrees.{planted_blossoming, planted_no_other, planted_leaves, planted_length}
 use Rattle.pm_euler.proofs.PlantingWords.{planted_exists}
 use Rattle.pm_euler.proofs.ClosedAnew.{HasClosure, closed_anew}
-use Rattle.pm_euler.proofs.ClosedMaps.{quartic_closure}
-use Rattle.pm_euler.proofs.OneSample.{anew_alike, anew_balances, old_plant_few}
+use Rattle.pm_euler.proofs.ClosedMaps.{canonical_closure_is_rooted, quartic_closure}
+use Rattle.pm_euler.proofs.OneSample.{anew_alike, anew_balances, anew_blossoms, old_plant_few}
 
 -- the tree that the choices grow has a leaf more than the size
 pub grown_leaves : (n : ℕ) (choices : List ℕ) → IsValidList choices (quartic_choices n) → leaves (grown (take n choices)) ≡ suc n
@@ -31,6 +31,14 @@ grown_leaves n choices valid =
     let long : length choices ≡ 2 * n + 1 = valid.as_long ∙ length-quartic_choices n in
     let few : length (take n choices) ≡ n = simp length-take (omega arith) in
     counted-leaves (suc (length (take n choices))) (grown (take n choices)) (counted-grown (take n choices) (growth_is_valid n choices valid)) ∙ ap suc few
+
+-- the map of a sample is a rooted map
+sampled_rooted : (n : ℕ) (tree : Tree) (ranks word : List ℕ) (free : ℕ) (turned : List ℕ) (old_plant : ℕ) (map : RotationSystem) → IsQuarticSize n → length ranks ≡ n → IsPlanted tree ranks word
+    → IsPlantedAnew word free turned old_plant → IsCanonicalClosure turned map → IsRootedMap map
+sampled_rooted n tree ranks word free turned old_plant map size long is anew closed =
+    let few = size.few in
+    let blossoming : IsBlossoming word = planted_blossoming tree ranks word is (omega arith) in
+    canonical_closure_is_rooted turned map (anew_blossoms word free turned old_plant blossoming anew) (anew_balances word free turned old_plant blossoming anew) closed
 
 -- the map of a sample is quartic
 sampled_class : (n : ℕ) (tree : Tree) (ranks word : List ℕ) (free : ℕ) (turned : List ℕ) (old_plant : ℕ) (map : RotationSystem) → IsQuarticSize n → length ranks ≡ n → IsPlanted tree ranks word
@@ -71,6 +79,7 @@ quartic_sampled n choices tree ranks word turned old_plant map residue size vali
         is_closed = closed;
         residue_is = residue_is ∙ ap (λ (t : Tree). old_plant ∷ code_of (labels_of t)) grows;
       };
+      rooted = sampled_rooted n tree ranks word (slice_index choices (2 * n)) turned old_plant map size long is anew closed;
       canonical = closed.is_canonical.is_canonical;
       in_class = sampled_class n tree ranks word (slice_index choices (2 * n)) turned old_plant map size long is anew closed;
       valid_residue = subst (λ (r : List ℕ). IsValidList r (quartic_residues n)) (sym residue_is)

@@ -10,11 +10,12 @@ use Rattle.pm_euler.specs.declared.sample.Sample.{Sample}
 use Rattle.pm_euler.specs.declared.sample.SampleRefusal.{SampleRefusal}
 use Rattle.pm_euler.specs.declared.sample.SampleRefusal.TheVariants.{Memory, List as NotValid}
 
--- The choices are valid and give this map and this residue. The map is canonical and of the class and size, and the
--- residue is valid.
+-- The choices are valid and give this map and this residue. It is a rooted map, canonical and of the class and size, and
+-- the residue is valid.
 pub record IsSampled (bounds residues : List ℕ) (has : RotationSystem → Type 0) (samples : RotationSystem → List ℕ → Type 0) (choices : List ℕ) (sample : Sample) : Type 0 where
   pub valid : IsValidList choices bounds
   pub given : samples sample.map sample.residue
+  pub rooted : IsRootedMap sample.map
   pub canonical : IsCanonical sample.map
   pub in_class : has sample.map
   pub valid_residue : IsValidList sample.residue residues

@@ -25,18 +25,4 @@ pub use quartic::Quartic;
 pub use sample::{Sample, SampleRefusal, UnsampleRefusal};
 
 #[cfg(test)]
-mod eulerian_tests;
-#[cfg(test)]
-mod eulerian_unsampling_tests;
-#[cfg(test)]
-mod object_tests;
-#[cfg(test)]
-mod plane_planting_tests;
-#[cfg(test)]
-mod planting_tests;
-#[cfg(test)]
-mod quartic_unsampling_tests;
-#[cfg(test)]
 mod tests;
-#[cfg(test)]
-mod unplanting_tests;
