@@ -1,2 +1,3 @@
 pub mod Medial
 pub mod MedialLaws
+pub mod steps

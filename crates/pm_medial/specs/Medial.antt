@@ -1,8 +1,13 @@
 -- The medial structure of a structure: a vertex of degree 4 for each edge; two edges that follow each other around a vertex
 -- are joined (Tutte 1963).
-use Rattle.std.specs.Prelude.{◌≡◌, ℕ, suc, ◌*◌, ◌<◌}
+use Rattle.std.specs.Prelude.{◌≡◌, ℕ, suc, ◌*◌, ◌<◌, Result, Ok, Err, ⊤}
+use Rattle.pm_limits.specs.declared.TheConstants.{MAX_EDGES}
 use Rattle.pm_map.specs.Structure.{Structure, Same}
+use Rattle.pm_map.specs.Plane.{edges}
 use Rattle.pm_map.specs.Rotation.{RotationSystem, structure_of, IsRootedMap}
+use Rattle.pm_map.specs.declared.rooted_map.RootedMap.{RootedMap}
+use Rattle.pm_medial.specs.declared.medials.MedialRefusal.{MedialRefusal}
+use Rattle.pm_medial.specs.declared.medials.MedialRefusal.TheVariants.{Memory, TooMany}
 
 -- Each dart d gives two darts, its plus and its minus. Around the vertex of an edge stand the plus of d, the minus of d, the
 -- plus of the twin of d and the minus of that twin. The twin of the plus of d is the minus of the dart after d. The root is
@@ -18,6 +23,17 @@ pub record IsMedialOf (s medial : Structure) : Type 0 where
 -- the map has the medial structure of the other
 abbrev pub IsMedialMap : RotationSystem → RotationSystem → Type 0
 IsMedialMap map medial = IsMedialOf (structure_of map) (structure_of medial)
+
+-- twice the edges of the map are so many, and more than the limit
+pub record HasTooManyEdges (map : RotationSystem) (twice : ℕ) : Type 0 where
+  pub many : MAX_EDGES < twice
+  pub counted : twice ≡ 2 * edges (structure_of map)
+
+-- the answer to a map: its medial map, or that this would have too many edges; want of memory may come at any map
+abbrev pub IsMedialAnswer : RotationSystem → Result RootedMap MedialRefusal → Type 0
+IsMedialAnswer map (Ok medial) = IsMedialMap map medial
+IsMedialAnswer map (Err (TooMany twice)) = HasTooManyEdges map twice
+IsMedialAnswer map (Err Memory) = ⊤
 
 -- an unmedial of a structure: a rooted map whose medial structure is the same as this one
 pub record IsUnmedialOf (s : Structure) (map : RotationSystem) : Type 0 where

@@ -1,9 +1,13 @@
 -- The laws of medial structures.
-use Rattle.std.specs.Prelude.{◌≡◌, ◌↔◌, ℕ, ◌+◌, ◌*◌, ◌<◌}
+use Rattle.std.specs.Prelude.{◌≡◌, ◌↔◌, ℕ, ◌+◌, ◌*◌, ◌<◌, Result, Err}
 use Rattle.pm_map.specs.Structure.{Structure, IsStructure, IsConnected, Same}
 use Rattle.pm_map.specs.Plane.{IsPlane, vertices, edges, faces}
 use Rattle.pm_map.specs.Classes.{IsQuartic}
-use Rattle.pm_medial.specs.Medial.{IsMedialOf}
+use Rattle.pm_map.specs.Rotation.{RotationSystem, IsRootedMap}
+use Rattle.pm_map.specs.declared.rooted_map.RootedMap.{RootedMap}
+use Rattle.pm_medial.specs.declared.medials.MedialRefusal.{MedialRefusal}
+use Rattle.pm_medial.specs.declared.medials.MedialRefusal.TheVariants.{Memory}
+use Rattle.pm_medial.specs.Medial.{IsMedialOf, IsMedialAnswer}
 
 -- the medial structure of a plane structure with a dart is quartic, and so plane; its size is the number of edges
 abbrev pub MedialIsQuartic : Type 0
@@ -23,3 +27,9 @@ abbrev pub MedialsTell : Type 0
 MedialsTell =
     (a b a_medial b_medial : Structure) → IsStructure a → IsStructure b → IsConnected a → IsMedialOf a a_medial → IsMedialOf b b_medial
     → (Same a b ↔ Same a_medial b_medial)
+
+-- a map has one answer, but for want of memory
+abbrev pub MedialHasOneAnswer : Type 0
+MedialHasOneAnswer =
+    (map : RotationSystem) (first second : Result RootedMap MedialRefusal) → IsRootedMap map → IsMedialAnswer map first → IsMedialAnswer map second
+    → (first ≡ Err Memory → ⊥) → (second ≡ Err Memory → ⊥) → first ≡ second
