@@ -2,7 +2,6 @@
 use Rattle.std.proofs.Common.{◌≡◌, ℕ, ◌+◌, ◌*◌, ◌/◌, ◌%◌, ◌<◌, ◌≤◌, inl, inr, cond, eqb, List, [], ◌∷◌, ◌++◌, map, length, get_or, slice_index, refl, sym, ◌∙◌, ap, subst, arith, length-append}
 use Rattle.std.proofs.lemmas.List.{get_or_append_left, append-nil, get_or-map, length-map}
 use Rattle.std.proofs.lemmas.Bool.{cases_eq, cond-true, cond-false, eq-eqb, ne_eqb}
-use Rattle.pm_limits.specs.declared.TheConstants.{MAX_EDGES}
 use Rattle.pm_perm.specs.Permutation.{IsPermutationBelow}
 use Rattle.pm_perm.proofs.Permutations.{pigeonhole}
 use Rattle.pm_map.specs.Structure.{Structure, CarriesTo}
@@ -11,10 +10,10 @@ use Rattle.pm_map.specs.Canonical.{first_mentions, IsCanonicalOf}
 use Rattle.pm_map.specs.Meeting.{darts_of, Meets, at_root, onward, IsMeetingList, no_dart, complete}
 use Rattle.pm_map.proofs.UniqueMeeting.{vertex_begins}
 use Rattle.pm_map.proofs.CarriedMeeting.{AreBelow, darts_of-onward, darts_of-map, meeting_list_carried}
-use Rattle.pm_map.proofs.CarriedStructure.{structure_carried, connected_carried, euler_carried}
+use Rattle.pm_map.proofs.CarriedStructure.{rooted_carried, rooted_is_plane}
 use Rattle.pm_map.proofs.CanonicalNames.{HasEdge, each_edge_is_mentioned, first_mentions-map, carries_keeps_twins}
-use Rattle.pm_canon.specs.Kept.{IsMeetingOrder}
-use Rattle.pm_canon.specs.Naming.{NamesMentions, IsRenamed}
+use Rattle.pm_canon.specs.MeetingOrder.{IsMeetingOrder}
+use Rattle.pm_canon.specs.steps.Naming.{NamesMentions, IsRenamed}
 use Rattle.pm_canon.proofs.MentionLemmas.{twin-twin, first_mentions-stands, twin_below}
 
 -- the list of a map's darts, with their names
@@ -137,15 +136,7 @@ names_carry m darts names sigma n renamed = record {
 
 pub renamed_is_map : (m : RotationSystem) (darts names sigma : List ℕ) → IsNumbered m darts names → IsRenamed names m.sigma sigma → IsRootedMap (record { sigma = sigma; root = 0 })
 renamed_is_map m darts names sigma n renamed =
-    let carries = names_carry m darts names sigma n renamed in
-    let structure = structure_carried (slice_index names) (structure_of m) (structure_of (record { sigma = sigma; root = 0 })) n.is_map.structure carries (λ _. refl) in
-    record {
-      even = ap (λ k. k % 2) renamed.size ∙ n.is_map.even;
-      few = subst (λ k. k ≤ 2 * MAX_EDGES) (sym renamed.size) n.is_map.few;
-      structure = structure;
-      connected = connected_carried (slice_index names) (structure_of m) (structure_of (record { sigma = sigma; root = 0 })) carries n.is_map.connected;
-      euler = euler_carried (slice_index names) (structure_of m) (structure_of (record { sigma = sigma; root = 0 })) n.is_map.structure structure carries n.is_map.euler;
-    }
+    rooted_carried (slice_index names) (structure_of m) (record { sigma = sigma; root = 0 }) (rooted_is_plane m n.is_map) n.is_map.even n.is_map.few (names_carry m darts names sigma n renamed) (λ _. refl)
 
 pub renamed_is_canonical : (m : RotationSystem) (darts names sigma : List ℕ) → IsNumbered m darts names → IsRenamed names m.sigma sigma → IsCanonicalOf m (record { sigma = sigma; root = 0 })
 renamed_is_canonical m darts names sigma n renamed =

@@ -11,8 +11,9 @@ use Rattle.pm_perm.proofs.InverseLemmas.{place_of, place_of-of_value}
 use Rattle.pm_map.specs.Structure.{Structure, IsStructure, IsConnected}
 use Rattle.pm_map.specs.Rotation.{structure_of, twin}
 use Rattle.pm_map.specs.Meeting.{Stands}
-use Rattle.pm_canon.specs.Kept.{HasEachOnce, IsKept, AppendsVertex, IsMeeting, IsMeetingOrder}
-use Rattle.pm_canon.specs.Naming.{IsNaming, IsRenamed}
+use Rattle.pm_canon.specs.MeetingOrder.{HasEachOnce, IsMeetingOrder}
+use Rattle.pm_canon.specs.steps.Kept.{IsKept, AppendsVertex, IsMeeting}
+use Rattle.pm_canon.specs.steps.Naming.{IsNaming, IsRenamed}
 use Rattle.pm_canon.specs.Laws.{EachMapHasCanonical, EachMapHasMeetingList}
 use Rattle.pm_canon.proofs.KeptLemmas.{HasEachOnce-length, HasEachOnce-fresh}
 use Rattle.pm_canon.proofs.WalkLemmas.{IsWalking, IsWalking-begins, IsWalking-step, IsWalking-below, IsWalking-once, IsWalking-kept, IsWalking-appended}

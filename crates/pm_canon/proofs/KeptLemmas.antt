@@ -7,7 +7,8 @@ use Rattle.std.proofs.lemmas.Bool.{cases_lt, cases_eq, false≢true}
 use Rattle.pm_perm.proofs.Permutations.{pigeonhole}
 use Rattle.pm_map.specs.Meeting.{Stands}
 use Rattle.pm_map.proofs.StandsLemmas.{Stands-push, Stands-append_left, cases_push}
-use Rattle.pm_canon.specs.Kept.{HasEachOnce, MarksDarts}
+use Rattle.pm_canon.specs.MeetingOrder.{HasEachOnce}
+use Rattle.pm_canon.specs.steps.Kept.{MarksDarts}
 
 -- darts below a bound, each once, are no more than the bound
 pub HasEachOnce-length : (bound : ℕ) (darts : List ℕ) → HasEachOnce bound darts → length darts ≤ bound

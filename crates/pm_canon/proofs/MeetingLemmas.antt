@@ -10,7 +10,8 @@ use Rattle.pm_map.proofs.StandsLemmas.{Stands-append_left, Stands-append_right}
 use Rattle.pm_map.proofs.CarriedMeeting.{darts_of-onward}
 use Rattle.pm_map.proofs.UniqueMeeting.{vertex_begins}
 use Rattle.pm_map.proofs.WholeMeeting.{meeting_list_is_whole}
-use Rattle.pm_canon.specs.Kept.{MarksDarts, IsKept, AppendsVertex, IsMeeting, IsMeetingOrder}
+use Rattle.pm_canon.specs.steps.Kept.{MarksDarts, IsKept, AppendsVertex, IsMeeting}
+use Rattle.pm_canon.specs.MeetingOrder.{IsMeetingOrder}
 
 pub none_stands : (d : ℕ) → Stands [] d → ⊥
 none_stands d s = let within : s.0 < 0 = s.1.within in omega arith

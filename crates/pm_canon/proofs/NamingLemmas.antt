@@ -5,8 +5,8 @@ use Rattle.std.proofs.lemmas.Bool.{cases_lt}
 use Rattle.pm_map.specs.Rotation.{twin}
 use Rattle.pm_map.specs.Canonical.{first_mentions}
 use Rattle.pm_map.specs.Meeting.{Stands}
-use Rattle.pm_canon.specs.Kept.{MarksDarts}
-use Rattle.pm_canon.specs.Naming.{IsNaming}
+use Rattle.pm_canon.specs.steps.Kept.{MarksDarts}
+use Rattle.pm_canon.specs.steps.Naming.{IsNaming}
 use Rattle.pm_canon.proofs.KeptLemmas.{MarksDarts-push}
 use Rattle.pm_canon.proofs.MentionLemmas.{twin-twin, twin-other, first_mentions-seen, first_mentions-new, first_mentions-stands}
 

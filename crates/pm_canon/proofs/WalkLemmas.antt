@@ -6,7 +6,8 @@ use Rattle.pm_perm.specs.Permutation.{IsPermutationBelow}
 use Rattle.pm_map.specs.Structure.{Structure}
 use Rattle.pm_map.specs.Meeting.{Stands, IsVertexFrom}
 use Rattle.pm_map.proofs.StandsLemmas.{Stands-get_or, Stands-append_left, Stands-append_right, cases_Stands}
-use Rattle.pm_canon.specs.Kept.{HasEachOnce, MarksDarts, IsWhole, Precedes, IsKept, AppendsVertex}
+use Rattle.pm_canon.specs.MeetingOrder.{HasEachOnce}
+use Rattle.pm_canon.specs.steps.Kept.{MarksDarts, IsWhole, Precedes, IsKept, AppendsVertex}
 use Rattle.pm_canon.proofs.KeptLemmas.{HasEachOnce-push, MarksDarts-push}
 
 -- a way from the start around its vertex, which hasn't come back, and leads to this dart

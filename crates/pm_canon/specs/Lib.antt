@@ -1,3 +1,3 @@
-pub mod Kept
 pub mod Laws
-pub mod Naming
+pub mod MeetingOrder
+pub mod steps

@@ -1,16 +1,10 @@
 ghost use Rattle.std.specs.Prelude.{◌≡◌, ◌+◌, ◌<◌, length, IfOk, OnOk, false, slice_get, Some, vec_len, []};
-ghost use Rattle.pm_map.specs.Rotation.{IsRootedMap, RotationSystem, structure_of, twin};
-ghost use Rattle.pm_canon.specs.Kept.{IsKept, AppendsVertex, IsMeeting, IsMeetingOrder};
+ghost use Rattle.pm_map.specs.Rotation.{IsRootedMap, RotationSystem, structure_of};
+ghost use Rattle.pm_canon.specs.steps.Kept.{IsKept, AppendsVertex, IsMeeting};
+ghost use Rattle.pm_canon.specs.MeetingOrder.{IsMeetingOrder};
 
+use pm_map::twin_of;
 use std::alloc::{AllocError, Global};
-
-/// The other dart of the edge.
-pub(crate) fn twin_of(dart: u32) -> u32
-    requires { dart < 4294967295 }
-    ensures { result ≡ twin dart }
-{
-    if dart % 2 == 0 { dart + 1 } else { dart - 1 }
-}
 
 /// The darts of the map in the order in which its vertices are met from the root.
 pub fn meeting_list(alloc: Global, sigma: &[u32], root: u32) -> Result<Vec<u32>, AllocError>

@@ -1,11 +1,11 @@
 ghost use Rattle.std.specs.Prelude.{◌≡◌, ◌+◌, ◌*◌, ◌%◌, ◌<◌, ◌≤◌, length, take, IfOk, []};
 ghost use Rattle.pm_limits.specs.declared.TheConstants.{MAX_EDGES};
 ghost use Rattle.pm_perm.specs.Permutation.{IsPermutationList, IsPermutationBelow};
-ghost use Rattle.pm_canon.specs.Kept.{HasEachOnce, MarksDarts};
-ghost use Rattle.pm_canon.specs.Naming.{IsNaming, NamesMentions, IsRenamed};
-ghost use Rattle.pm_map.specs.Rotation.{twin};
+ghost use Rattle.pm_canon.specs.MeetingOrder.{HasEachOnce};
+ghost use Rattle.pm_canon.specs.steps.Kept.{MarksDarts};
+ghost use Rattle.pm_canon.specs.steps.Naming.{IsNaming, NamesMentions, IsRenamed};
 
-use crate::meeting::twin_of;
+use pm_map::twin_of;
 use std::alloc::{AllocError, Global};
 
 /// The name of each dart by the order in which the list mentions the edges first.

@@ -6,7 +6,8 @@ use Rattle.pm_perm.specs.Permutation.{IsPermutationBelow}
 use Rattle.pm_perm.proofs.Permutations.{pigeonhole}
 use Rattle.pm_perm.specs.Cycles.{repeated}
 use Rattle.pm_perm.proofs.Repeats.{repeated-inside, repeated-injective, repeated-swap, repeated-back}
-use Rattle.pm_map.specs.CycleSize.{IsCycleSize, IsSized}
+use Rattle.pm_map.specs.CycleSize.{IsCycleSize}
+use Rattle.pm_map.specs.steps.Sizes.{IsSized}
 
 -- a way of so many steps that isn't back before its end
 pub record IsAway (f : ℕ → ℕ) (d steps next : ℕ) : Type 0 where

@@ -8,7 +8,7 @@ use Rattle.pm_map.specs.declared.admitted.Degrees.{Degrees}
 use Rattle.pm_map.specs.Structure.{Structure}
 use Rattle.pm_map.specs.CycleSize.{IsCycleSize, AreCycleSizes}
 use Rattle.pm_map.specs.ClassRules.{IsAdmitted, HasAdmittedDegree, AllAdmitted, IsLeastOther}
-use Rattle.pm_map.specs.DegreeScan.{AreAdmitted, IsLeastEntry}
+use Rattle.pm_map.specs.steps.DegreeScan.{AreAdmitted, IsLeastEntry}
 use Rattle.pm_map.proofs.MarksLemmas.{MatchOption-weaker}
 
 -- what is written over the whole of a list is what is read then

@@ -6,7 +6,7 @@ use Rattle.pm_perm.specs.Permutation.{IsPermutationBelow}
 use Rattle.pm_perm.specs.Cycles.{repeated}
 use Rattle.pm_perm.proofs.Repeats.{repeated-first, HasPeriod, period}
 use Rattle.pm_map.specs.declared.degrees.Around.TheVariants.{Face}
-use Rattle.pm_map.specs.CycleSize.{step_around}
+use Rattle.pm_map.specs.steps.Sizes.{step_around}
 use Rattle.pm_map.specs.FaceWalk.{until, LeadsBack, darts_left, IsFaceWalk}
 use Rattle.pm_map.specs.Structure.{Structure}
 use Rattle.pm_map.specs.Meeting.{IsVertexFrom}

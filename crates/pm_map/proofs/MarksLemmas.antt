@@ -6,7 +6,7 @@ use Rattle.std.specs.Prelude.{MatchOption}
 use Rattle.pm_perm.specs.Permutation.{IsPermutationList}
 use Rattle.pm_perm.proofs.InverseLemmas.{standing_permutes}
 use Rattle.pm_map.specs.Meeting.{Stands}
-use Rattle.pm_map.specs.Marks.{AllMarked, NoneMarked, IsLeastUnmarked, MarksValues}
+use Rattle.pm_map.specs.steps.Marks.{AllMarked, NoneMarked, IsLeastUnmarked, MarksValues}
 use Rattle.pm_map.specs.Missing.{IsLeastMissing}
 
 -- what follows from what a clause says of each case

@@ -13,10 +13,11 @@ use Rattle.pm_perm.proofs.SameCycle.{in_cycle-back, in_cycle-leader}
 use Rattle.pm_map.specs.Structure.{Structure, IsStructure, IsClosedSet, face_next}
 use Rattle.pm_map.specs.Rotation.{structure_of, twin}
 use Rattle.pm_map.specs.Meeting.{Stands}
-use Rattle.pm_map.specs.Marks.{IsMarked, AllMarked, NoneMarked, IsLeastUnmarked}
+use Rattle.pm_map.specs.steps.Marks.{IsMarked, AllMarked, NoneMarked, IsLeastUnmarked}
 use Rattle.pm_map.specs.Reached.{IsReached, IsLeastUnreached}
-use Rattle.pm_map.specs.ReachAnswers.{IsReachedWhole}
-use Rattle.pm_map.specs.Search.{MarksFaces, IsSearch, work_left, face_step, WalksFace, MarksFace}
+use Rattle.pm_map.specs.steps.ReachAnswers.{IsReachedWhole}
+use Rattle.pm_map.specs.steps.Search.{MarksFaces, IsSearch, work_left, WalksFace, MarksFace}
+use Rattle.pm_map.specs.Rotation.{face_step}
 use Rattle.pm_map.proofs.CarriedStructure.{face_permutes}
 use Rattle.pm_map.proofs.StandsLemmas.{Stands-push, Stands-append_left, cases_push}
 use Rattle.pm_map.proofs.TwinLemmas.{twin_stays}

@@ -15,7 +15,7 @@ use Rattle.pm_perm.proofs.SameCycle.{in_cycle-leader, leader-in_cycle}
 use Rattle.pm_map.specs.declared.simple.Ends.{Ends}
 use Rattle.pm_map.specs.Rotation.{RotationSystem, structure_of, twin}
 use Rattle.pm_map.specs.Simple.{IsSimple}
-use Rattle.pm_map.specs.Ends.{AreEnds, AreGrouped, AreSimple, same_ends}
+use Rattle.pm_map.specs.steps.Ends.{AreEnds, AreGrouped, AreSimple, same_ends}
 use Rattle.pm_map.proofs.TwinLemmas.{twin_stays, twin_back}
 
 -- what the list of the ends tells of the rotation

@@ -10,7 +10,8 @@ use Rattle.pm_perm.proofs.Counts.{count_below-same, count_below-le}
 use Rattle.pm_map.specs.Structure.{Structure, IsStructure}
 use Rattle.pm_map.specs.Classes.{degree_of, vertices_of_degree}
 use Rattle.pm_map.specs.CycleSize.{AreCycleSizes}
-use Rattle.pm_map.specs.DegreeTable.{AreTallied, AreDivided, AreVertexCounts, IsTableOf}
+use Rattle.pm_map.specs.steps.Tables.{AreTallied, AreDivided, IsTableOf}
+use Rattle.pm_map.specs.DegreeTable.{AreVertexCounts}
 use Rattle.pm_map.proofs.DegreeCounts.{degree_counts_darts}
 use Rattle.pm_map.proofs.DegreeTotals.{darts_at_degree}
 

@@ -1,9 +1,9 @@
 -- Twins among an even number of darts.
-use Rattle.std.proofs.Common.{◌≡◌, ℕ, ◌/◌, ◌%◌, ◌<◌, ◌⊎◌, inl, inr, List, length, arith}
+use Rattle.std.proofs.Common.{◌≡◌, ℕ, zero, suc, refl, ◌/◌, ◌%◌, ◌<◌, ◌⊎◌, inl, inr, List, length, arith}
 use Rattle.std.proofs.lemmas.Bool.{cases_eq}
 use Rattle.pm_perm.specs.Permutation.{IsPermutationList}
 use Rattle.pm_map.specs.Structure.{IsStructure}
-use Rattle.pm_map.specs.Rotation.{structure_of, twin}
+use Rattle.pm_map.specs.Rotation.{RotationSystem, structure_of, twin}
 
 pub twin_stays : (darts d : ℕ) → darts % 2 ≡ 0 → d < darts → twin d < darts
 twin_stays darts d even h = omega arith
@@ -32,3 +32,10 @@ structure_of_parts sigma root even turns stays none = record {
   root_stays = stays;
   no_root = none;
 }
+
+-- a structure with the twins 2k and 2k+1 has an even number of darts
+pub even_darts : (m : RotationSystem) → IsStructure (structure_of m) → length m.sigma % 2 ≡ 0
+even_darts m is = even (length m.sigma) (λ d h. is.twin_stays d h) where
+  even : (n : ℕ) → ((d : ℕ) → d < n → twin d < n) → n % 2 ≡ 0
+  even zero stays = refl
+  even (suc last) stays = let inside = stays last (omega arith) in omega arith

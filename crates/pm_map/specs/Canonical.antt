@@ -2,7 +2,7 @@
 use Rattle.std.specs.Prelude.{◌≡◌, ℕ, ◌*◌, ◌<◌, ◌==◌, List, [], ◌∷◌, length, slice_index, if◌then◌else◌}
 use Rattle.std.specs.List.{list_any}
 use Rattle.pm_map.specs.Rotation.{RotationSystem, structure_of, twin}
-use Rattle.pm_map.specs.Structure.{Same}
+use Rattle.pm_map.specs.Structure.{Structure, Same}
 use Rattle.pm_map.specs.Meeting.{IsMeetingList, darts_of}
 
 -- the darts of a list whose twins don't stand before them, where the darts before the list were these
@@ -22,7 +22,11 @@ pub record IsCanonical (m : RotationSystem) : Type 0 where
   pub met : IsMeetingList (structure_of m) vertices
   pub named : (k : ℕ) → k < length (first_mentions (darts_of vertices)) → slice_index (first_mentions (darts_of vertices)) k ≡ 2 * k
 
--- the canonical map of a map: it is canonical, and it is the same map
-pub record IsCanonicalOf (m canonical : RotationSystem) : Type 0 where
+-- the canonical map of a structure, whatever its twins: it is canonical, and it is the same
+pub record IsCanonicalForm (s : Structure) (canonical : RotationSystem) : Type 0 where
   pub is_canonical : IsCanonical canonical
-  pub is_same : Same (structure_of m) (structure_of canonical)
+  pub is_same : Same s (structure_of canonical)
+
+-- the canonical map of a map
+abbrev pub IsCanonicalOf : RotationSystem → RotationSystem → Type 0
+IsCanonicalOf m canonical = IsCanonicalForm (structure_of m) canonical

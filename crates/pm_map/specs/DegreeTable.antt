@@ -1,25 +1,7 @@
--- Tables of degrees: how many entries of a list have which value, and how many vertices have which degree.
-use Rattle.std.specs.Prelude.{◌≡◌, ℕ, suc, ◌/◌, ◌<◌, ◌≤◌, ◌==◌, List, length, slice_index, count_by}
+-- Tables of degrees: how many vertices have which degree.
+use Rattle.std.specs.Prelude.{◌≡◌, ℕ, suc, ◌≤◌, List, length, slice_index}
 use Rattle.pm_map.specs.Structure.{Structure}
 use Rattle.pm_map.specs.Classes.{vertices_of_degree}
-
--- entry d is the number of entries that are d, for each d that the table has
-pub record AreTallied (entries table : List ℕ) : Type 0 where
-  pub each : (d : ℕ) → d < length table → slice_index table d ≡ count_by (λ entry. entry == d) entries
-
--- the entries from 1 on that are below the bound are divided by their places; the others are the same
-pub record AreDivided (before after : List ℕ) (bound : ℕ) : Type 0 where
-  pub as_long : length after ≡ length before
-  pub divided : (place : ℕ) → 0 < place → place < bound → slice_index after place ≡ slice_index before place / place
-  pub first : slice_index after 0 ≡ slice_index before 0
-  pub later : (place : ℕ) → bound ≤ place → slice_index after place ≡ slice_index before place
-
--- Entry d, from 1 on, is the number of entries that are d, divided by d; entry 0 is 1 where there are no entries, and else
--- the number of those that are 0.
-pub record IsTableOf (entries table : List ℕ) : Type 0 where
-  pub divided : (d : ℕ) → 0 < d → d < length table → slice_index table d ≡ count_by (λ entry. entry == d) entries / d
-  pub empty : length entries ≡ 0 → slice_index table 0 ≡ 1
-  pub filled : 0 < length entries → slice_index table 0 ≡ count_by (λ entry. entry == 0) entries
 
 -- entry d is the number of vertices of degree d, for each degree up to the greatest
 pub record AreVertexCounts (s : Structure) (greatest : ℕ) (table : List ℕ) : Type 0 where

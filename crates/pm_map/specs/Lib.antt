@@ -4,7 +4,6 @@ pub mod ClassLaws
 pub mod ClassRules
 pub mod Classes
 pub mod CycleSize
-pub mod DegreeScan
 pub mod DegreeTable
 pub mod DistanceLaws
 pub mod DualLaws
@@ -12,15 +11,13 @@ pub mod EdgeNumbers
 pub mod Ends
 pub mod FaceDistance
 pub mod FaceWalk
-pub mod Marks
 pub mod Meeting
 pub mod Missing
 pub mod Parts
 pub mod Plane
 pub mod Reached
-pub mod ReachAnswers
 pub mod Rotation
 pub mod SameLaws
-pub mod Search
 pub mod Simple
 pub mod Structure
+pub mod steps

@@ -17,6 +17,10 @@ twin d = suc d - 2 * (d % 2)
 abbrev pub structure_of : RotationSystem → Structure
 structure_of m = record { darts = length m.sigma; next = slice_index m.sigma; twin = twin; root = m.root }
 
+-- the dart after this one around its face
+abbrev pub face_step : List ℕ → ℕ → ℕ
+face_step sigma d = slice_index sigma (twin d)
+
 -- what every rooted map keeps: an even number of darts within the limit, a rotation and a root, and that it is plane
 pub record IsRootedMap (m : RotationSystem) : Type 0 where
   pub even : length m.sigma % 2 ≡ 0

@@ -1,7 +1,7 @@
 //! Whether all vertices or all faces have degrees that are admitted.
 ghost use Rattle.std.specs.Prelude.{◌≡◌, ◌<◌, ◌≤◌, ◌^◌, ◌↔◌, length, IfOk, IsTrue, MatchOption};
 ghost use Rattle.pm_map.specs.ClassRules.{AllAdmitted, IsAdmitted, IsLeastOther};
-ghost use Rattle.pm_map.specs.DegreeScan.{AreAdmitted, IsLeastEntry};
+ghost use Rattle.pm_map.specs.steps.DegreeScan.{AreAdmitted, IsLeastEntry};
 ghost use Rattle.pm_map.specs.Rotation.{structure_of};
 ghost use Rattle.pm_map.specs.Structure.{dual};
 

@@ -1,6 +1,7 @@
 //! How many vertices have which degree.
 ghost use Rattle.std.specs.Prelude.{◌≡◌, ◌+◌, ◌<◌, ◌^◌, length, EachIndex, slice_index, IfOk};
-ghost use Rattle.pm_map.specs.DegreeTable.{AreDivided, AreTallied, AreVertexCounts, IsTableOf};
+ghost use Rattle.pm_map.specs.steps.Tables.{AreDivided, AreTallied, IsTableOf};
+ghost use Rattle.pm_map.specs.DegreeTable.{AreVertexCounts};
 ghost use Rattle.pm_map.specs.Rotation.{structure_of};
 
 use crate::rooted_map::RootedMap;

@@ -1,7 +1,8 @@
 //! Degrees: how many darts are around a vertex or a face.
 ghost use Rattle.std.specs.Prelude.{◌≡◌, ◌+◌, ◌<◌, ◌%◌, ◌^◌, length, slice_index};
 ghost use Rattle.pm_perm.specs.Permutation.{IsPermutationBelow};
-ghost use Rattle.pm_map.specs.CycleSize.{IsCycleSize, AreCycleSizes, IsSized, step_around};
+ghost use Rattle.pm_map.specs.CycleSize.{IsCycleSize, AreCycleSizes};
+ghost use Rattle.pm_map.specs.steps.Sizes.{IsSized, step_around};
 ghost use Rattle.pm_map.specs.Rotation.{structure_of};
 ghost use Rattle.pm_map.specs.Structure.{face_next};
 

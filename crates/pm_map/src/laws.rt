@@ -1,5 +1,5 @@
 ghost use Rattle.std.specs.Prelude.{ℕ, List};
-ghost use Rattle.pm_map.specs.CanonicalLaws.{CanonicalIsRooted, CanonicalIsUnique, CanonicalTellsMaps};
+ghost use Rattle.pm_map.specs.CanonicalLaws.{CanonicalIsRooted, CanonicalIsUnique, CanonicalTellsMaps, FormIsRooted, FormIsUnique, FormTellsStructures};
 ghost use Rattle.pm_map.specs.ClassLaws.{DartsTellSimple, DegreeCountsDarts};
 ghost use Rattle.pm_map.specs.DistanceLaws.{DistanceIsSymmetric, DistancesAreCarried, EachFaceHasDistance, LevelsAreDistances};
 ghost use Rattle.pm_map.specs.Classes.{IsBipartite, IsEulerian, IsGeneral, IsQuartic, IsTriangulation};
@@ -14,6 +14,15 @@ pub fn canonical_is_unique()
     ensures rooted { CanonicalIsRooted }
     ensures unique { CanonicalIsUnique }
     ensures tells { CanonicalTellsMaps }
+{}
+
+/// The same of plane structures, whatever their twins: nothing is computed. Where one has no more edges than a map may
+/// have, its canonical map is a rooted map, it has no two, and it is the same as another exactly where their canonical
+/// maps are equal.
+pub fn canonical_form_is_unique()
+    ensures rooted { FormIsRooted }
+    ensures unique { FormIsUnique }
+    ensures tells { FormTellsStructures }
 {}
 
 /// There is one answer to a rotation and a root, but for want of memory; nothing is computed.

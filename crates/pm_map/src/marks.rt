@@ -1,6 +1,6 @@
 ghost use Rattle.std.specs.Prelude.{◌≡◌, ◌<◌, ◌≤◌, ◌^◌, length, MatchOption};
 ghost use Rattle.pm_perm.specs.Permutation.{IsPermutationList};
-ghost use Rattle.pm_map.specs.Marks.{AllMarked, NoneMarked, IsLeastUnmarked, MarksValues};
+ghost use Rattle.pm_map.specs.steps.Marks.{AllMarked, NoneMarked, IsLeastUnmarked, MarksValues};
 ghost use Rattle.pm_map.specs.Missing.{IsLeastMissing};
 
 /// The least number that isn't marked, if there is one.

@@ -1,10 +1,10 @@
 //! The search for the darts that the root reaches.
 ghost use Rattle.std.specs.Prelude.{◌≡◌, ◌<◌, ◌≤◌, ◌%◌, ◌*◌, ◌^◌, length, IfOk, OnOk, []};
 ghost use Rattle.pm_perm.specs.Permutation.{IsPermutationList};
-ghost use Rattle.pm_map.specs.Marks.{NoneMarked};
-ghost use Rattle.pm_map.specs.ReachAnswers.{IsReachAnswer};
+ghost use Rattle.pm_map.specs.steps.Marks.{NoneMarked};
+ghost use Rattle.pm_map.specs.steps.ReachAnswers.{IsReachAnswer};
 ghost use Rattle.pm_map.specs.Rotation.{structure_of};
-ghost use Rattle.pm_map.specs.Search.{IsSearch, MarksFace};
+ghost use Rattle.pm_map.specs.steps.Search.{IsSearch, MarksFace};
 ghost use Rattle.pm_map.specs.Structure.{IsStructure};
 
 use crate::darts::twin_of;

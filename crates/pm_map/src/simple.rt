@@ -1,6 +1,6 @@
 //! Whether a map is simple.
 ghost use Rattle.std.specs.Prelude.{◌≡◌, ◌↔◌, ◌%◌, ◌^◌, ◌<◌, ◌≤◌, length, IfOk, IsTrue};
-ghost use Rattle.pm_map.specs.Ends.{AreEnds, AreGrouped, AreSimple};
+ghost use Rattle.pm_map.specs.steps.Ends.{AreEnds, AreGrouped, AreSimple};
 ghost use Rattle.pm_map.specs.Rotation.{structure_of};
 ghost use Rattle.pm_map.specs.Simple.{IsSimple};
 

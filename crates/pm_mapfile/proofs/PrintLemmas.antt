@@ -7,7 +7,8 @@ use Rattle.pm_map.specs.Structure.{Structure}
 use Rattle.pm_map.specs.Meeting.{Stands, IsVertexFrom, darts_of, Meets, at_root, onward, IsMeetingList, no_dart, complete}
 use Rattle.pm_map.proofs.UniqueMeeting.{vertex_begins, vertex_is_unique}
 use Rattle.pm_map.proofs.CarriedMeeting.{darts_of-append}
-use Rattle.pm_canon.specs.Kept.{HasEachOnce, IsWhole, IsKept, IsMeetingOrder}
+use Rattle.pm_canon.specs.MeetingOrder.{HasEachOnce, IsMeetingOrder}
+use Rattle.pm_canon.specs.steps.Kept.{IsWhole, IsKept}
 use Rattle.pm_canon.proofs.KeptLemmas.{HasEachOnce-push, HasEachOnce-length}
 use Rattle.pm_canon.proofs.MeetingLemmas.{IsKept-none}
 use Rattle.pm_canon.proofs.WalkLemmas.{IsWay, IsWay-one, IsWay-push, IsWay-fresh, IsWay-vertex, IsWay-below}

@@ -1,6 +1,6 @@
 ghost use Rattle.std.specs.Prelude.{◌≡◌, ◌*◌, ◌++◌, ◌∷◌, ◌<◌, [], length, IfOk, OnOk, OnErr};
 ghost use Rattle.pm_map.specs.Rotation.{IsRootedMap, RotationSystem, structure_of};
-ghost use Rattle.pm_canon.specs.Kept.{IsMeetingOrder};
+ghost use Rattle.pm_canon.specs.MeetingOrder.{IsMeetingOrder};
 ghost use Rattle.pm_mapfile.specs.MapText.{dart_words, map_line, HasOneText, IsMapText, AppendsMapText};
 ghost use Rattle.pm_mapfile.specs.steps.Printed.{AppendsLines, AppendsLine};
 

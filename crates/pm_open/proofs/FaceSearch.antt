@@ -8,8 +8,8 @@ use Rattle.pm_perm.proofs.SameCycle.{in_cycle-back}
 use Rattle.pm_map.specs.Structure.{Structure, IsStructure, IsConnected, IsClosedSet}
 use Rattle.pm_map.specs.Rotation.{RotationSystem, structure_of, twin}
 use Rattle.pm_map.specs.Meeting.{Stands}
-use Rattle.pm_map.specs.Marks.{IsMarked, NoneMarked}
-use Rattle.pm_map.specs.Search.{face_step}
+use Rattle.pm_map.specs.steps.Marks.{IsMarked, NoneMarked}
+use Rattle.pm_map.specs.Rotation.{face_step}
 use Rattle.pm_map.specs.FaceDistance.{AreInOneFace, AreFaceLevels}
 use Rattle.pm_map.proofs.CarriedStructure.{face_permutes}
 use Rattle.pm_map.proofs.DistanceLemmas.{face_below, face_back, levels_are_distances}

@@ -1,8 +1,8 @@
 //! The search for the distances of the faces.
 ghost use Rattle.std.specs.Prelude.{◌≡◌, ◌+◌, ◌<◌, ◌≤◌, length, IfOk, OnOk, [], vec_len};
 ghost use Rattle.pm_map.specs.Rotation.{IsRootedMap, structure_of};
-ghost use Rattle.pm_map.specs.Marks.{NoneMarked};
-ghost use Rattle.pm_map.specs.Search.{work_left};
+ghost use Rattle.pm_map.specs.steps.Marks.{NoneMarked};
+ghost use Rattle.pm_map.specs.steps.Search.{work_left};
 ghost use Rattle.pm_open.specs.Distances.{AreFaceDistances};
 ghost use Rattle.pm_open.specs.steps.DistanceSearch.{FindsFace, IsFinding};
 

@@ -1,6 +1,6 @@
 use Rattle.std.proofs.Common.{sym, subst}
 use Rattle.pm_perm.specs.Permutation.{IsPermutationBelow}
-use Rattle.pm_canon.specs.Naming.{IsRenamed}
+use Rattle.pm_canon.specs.steps.Naming.{IsRenamed}
 use Rattle.pm_canon.proofs.CanonLemmas.{IsNumbered, IsNumbered-from, names_permute, renamed_is_map, renamed_is_canonical}
 use Rattle.std.specs.Prelude.{slice_index}
 use Rattle.pm_canon.proofs.canon.Goals as goal

@@ -4,8 +4,8 @@ use Rattle.std.specs.Prelude.{◌≡◌, ℕ, suc, ◌*◌, ◌<◌, ◌≤◌, 
 use Rattle.pm_map.specs.Structure.{Structure, face_next}
 use Rattle.pm_map.specs.Rotation.{RotationSystem, structure_of, twin}
 use Rattle.pm_map.specs.Meeting.{Stands}
-use Rattle.pm_map.specs.Marks.{IsMarked}
-use Rattle.pm_map.specs.Search.{work_left, WalksFace}
+use Rattle.pm_map.specs.steps.Marks.{IsMarked}
+use Rattle.pm_map.specs.steps.Search.{work_left, WalksFace}
 use Rattle.pm_map.specs.FaceDistance.{AreInOneFace}
 
 -- A walk around the face of `start` that stands at `dart`: the darts that it marks get this distance, and are appended to

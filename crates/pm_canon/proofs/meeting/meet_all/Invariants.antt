@@ -1,6 +1,6 @@
 use Rattle.std.proofs.Common.{◌-◌, length}
 use Rattle.pm_map.specs.Rotation.{structure_of}
-use Rattle.pm_canon.specs.Kept.{IsMeeting}
+use Rattle.pm_canon.specs.steps.Kept.{IsMeeting}
 use Rattle.pm_canon.proofs.meeting.meet_all.Given as goal
 
 abbrev pub invariant-meet : goal.invariant-meet

@@ -5,7 +5,7 @@ use Rattle.std.proofs.lemmas.Bool.{false≢true}
 use Rattle.std.specs.Prelude.{OnOk}
 use Rattle.pm_map.specs.Rotation.{structure_of, twin}
 use Rattle.pm_map.specs.Meeting.{Stands}
-use Rattle.pm_canon.specs.Kept.{AppendsVertex}
+use Rattle.pm_canon.specs.steps.Kept.{AppendsVertex}
 use Rattle.pm_canon.proofs.MeetingLemmas.{IsMeeting-stands, IsMeeting-onward}
 use Rattle.pm_canon.proofs.meeting.meet_twin.Goals as goal
 

@@ -1,6 +1,6 @@
 use Rattle.std.proofs.Common.{subst, arith}
 use Rattle.std.proofs.lemmas.List.{take_all}
-use Rattle.pm_canon.specs.Naming.{NamesMentions}
+use Rattle.pm_canon.specs.steps.Naming.{NamesMentions}
 use Rattle.pm_canon.proofs.NamingLemmas.{IsNaming-none}
 use Rattle.pm_canon.proofs.naming.name_all.Goals as goal
 

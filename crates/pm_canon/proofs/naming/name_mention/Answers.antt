@@ -4,7 +4,7 @@ use Rattle.std.proofs.lemmas.Bool.{false≢true}
 use Rattle.pm_map.specs.Rotation.{twin}
 use Rattle.pm_map.specs.Canonical.{first_mentions}
 use Rattle.pm_map.specs.Meeting.{Stands}
-use Rattle.pm_canon.specs.Naming.{IsNaming}
+use Rattle.pm_canon.specs.steps.Naming.{IsNaming}
 use Rattle.pm_canon.proofs.KeptLemmas.{HasEachOnce-fresh, HasEachOnce-length}
 use Rattle.pm_canon.proofs.MentionLemmas.{first_mentions-length, twin_below}
 use Rattle.pm_canon.proofs.NamingLemmas.{IsNaming-seen, IsNaming-new}

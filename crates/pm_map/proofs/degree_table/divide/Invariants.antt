@@ -1,4 +1,4 @@
-use Rattle.pm_map.specs.DegreeTable.{AreDivided}
+use Rattle.pm_map.specs.steps.Tables.{AreDivided}
 use Rattle.pm_map.proofs.degree_table.divide.Given as goal
 
 abbrev pub invariant-places : goal.invariant-places

@@ -1,5 +1,5 @@
 use Rattle.std.proofs.Common.{take, length, ◌≡◌}
-use Rattle.pm_map.specs.DegreeTable.{AreTallied}
+use Rattle.pm_map.specs.steps.Tables.{AreTallied}
 use Rattle.pm_map.proofs.degree_table.tally.Given as goal
 
 abbrev pub invariant-entries : goal.invariant-entries

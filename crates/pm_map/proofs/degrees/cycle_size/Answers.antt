@@ -1,6 +1,6 @@
 use Rattle.std.proofs.Common.{◌≤◌, ◌+◌, ℕ, length, arith}
 use Rattle.pm_map.proofs.CycleSizes.{IsAway, IsAway-one, IsAway-more, IsAway-short, IsAway-size, IsAway-below}
-use Rattle.pm_map.specs.CycleSize.{step_around}
+use Rattle.pm_map.specs.steps.Sizes.{step_around}
 use Rattle.pm_map.proofs.degrees.cycle_size.Goals as goal
 
 pub walk-init : goal.walk-init

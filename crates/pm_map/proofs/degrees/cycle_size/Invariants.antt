@@ -1,6 +1,6 @@
 use Rattle.std.proofs.Common.{◌-◌, length}
 use Rattle.pm_map.proofs.CycleSizes.{IsAway}
-use Rattle.pm_map.specs.CycleSize.{step_around}
+use Rattle.pm_map.specs.steps.Sizes.{step_around}
 use Rattle.pm_map.proofs.degrees.cycle_size.Given as goal
 
 abbrev pub invariant-walk : goal.invariant-walk

@@ -1,5 +1,5 @@
 use Rattle.std.proofs.Common.{◌<◌, length, arith, rules}
-use Rattle.pm_map.specs.CycleSize.{step_around}
+use Rattle.pm_map.specs.steps.Sizes.{step_around}
 use Rattle.pm_map.proofs.CycleSizes.{IsSized-none, IsSized-nonzero}
 use Rattle.pm_map.proofs.degrees.cycle_sizes.Goals as goal
 use Rattle.pm_map.proofs.degrees.cycle_sizes.Goals.{then-out-start-eq0, else-out-start-eq0}

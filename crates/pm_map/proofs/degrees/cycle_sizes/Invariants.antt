@@ -1,5 +1,5 @@
-use Rattle.pm_map.specs.CycleSize.{IsSized}
-use Rattle.pm_map.specs.CycleSize.{step_around}
+use Rattle.pm_map.specs.steps.Sizes.{IsSized}
+use Rattle.pm_map.specs.steps.Sizes.{step_around}
 use Rattle.pm_map.proofs.degrees.cycle_sizes.Given as goal
 
 abbrev pub invariant-each : goal.invariant-each

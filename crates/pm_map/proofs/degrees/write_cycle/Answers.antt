@@ -1,6 +1,6 @@
 use Rattle.std.proofs.Common.{◌≡◌, ◌<◌, length, arith}
 use Rattle.pm_map.proofs.CycleSizes.{IsWriting-begins, IsWriting-below, IsWriting-step, IsSized-more}
-use Rattle.pm_map.specs.CycleSize.{step_around}
+use Rattle.pm_map.specs.steps.Sizes.{step_around}
 use Rattle.pm_map.proofs.degrees.write_cycle.Goals as goal
 
 pub write-init : goal.write-init

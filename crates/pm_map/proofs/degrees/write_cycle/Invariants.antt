@@ -1,5 +1,5 @@
 use Rattle.pm_map.proofs.CycleSizes.{IsWriting}
-use Rattle.pm_map.specs.CycleSize.{step_around}
+use Rattle.pm_map.specs.steps.Sizes.{step_around}
 use Rattle.pm_map.proofs.degrees.write_cycle.Given as goal
 
 abbrev pub invariant-write : goal.invariant-write

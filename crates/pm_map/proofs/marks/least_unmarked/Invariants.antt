@@ -1,5 +1,5 @@
 use Rattle.std.proofs.Common.{ℕ, ◌<◌}
-use Rattle.pm_map.specs.Marks.{IsMarked}
+use Rattle.pm_map.specs.steps.Marks.{IsMarked}
 use Rattle.pm_map.proofs.marks.least_unmarked.Given as goal
 
 abbrev pub invariant-scan : goal.invariant-scan

@@ -1,6 +1,6 @@
 use Rattle.std.proofs.Common.{not, false, length, get_or}
 use Rattle.pm_perm.specs.Count.{count_below}
-use Rattle.pm_map.specs.Search.{WalksFace}
+use Rattle.pm_map.specs.steps.Search.{WalksFace}
 use Rattle.pm_map.proofs.reaching.mark_face.Given as goal
 
 abbrev pub invariant-walk : goal.invariant-walk

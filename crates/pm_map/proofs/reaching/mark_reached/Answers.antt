@@ -1,7 +1,7 @@
 use Rattle.std.proofs.Common.{◌≡◌, ◌<◌, ◌≤◌, ◌++◌, ◌∷◌, [], length, get_or, true, false, subst, sym, arith}
 use Rattle.pm_map.specs.Rotation.{structure_of, twin}
 use Rattle.pm_map.specs.Structure.{Structure}
-use Rattle.pm_map.specs.Search.{IsSearch, MarksFace}
+use Rattle.pm_map.specs.steps.Search.{IsSearch, MarksFace}
 use Rattle.pm_map.proofs.SearchLemmas.{IsSearch-begins, IsSearch-pop, IsSearch-step, IsSearch-popped, IsSearch-bound}
 use Rattle.pm_map.proofs.reaching.mark_reached.Goals as goal
 

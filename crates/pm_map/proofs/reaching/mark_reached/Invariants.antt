@@ -1,5 +1,5 @@
 use Rattle.pm_map.specs.Rotation.{structure_of}
-use Rattle.pm_map.specs.Search.{IsSearch, work_left}
+use Rattle.pm_map.specs.steps.Search.{IsSearch, work_left}
 use Rattle.pm_map.proofs.reaching.mark_reached.Given as goal
 
 abbrev pub invariant-search : goal.invariant-search

@@ -2,7 +2,7 @@ use Rattle.std.proofs.Common.{◌≡◌, ℕ, suc, ◌+◌, ◌*◌, ◌<◌, �
 use Rattle.std.proofs.lemmas.List.{get_or_read_under}
 use Rattle.std.proofs.lemmas.Result.{on_ok_weaker}
 use Rattle.pm_map.specs.Rotation.{twin}
-use Rattle.pm_map.specs.Marks.{IsMarked}
+use Rattle.pm_map.specs.steps.Marks.{IsMarked}
 use Rattle.pm_map.proofs.StandsLemmas.{Stands-get_or}
 use Rattle.pm_open.specs.steps.DistanceSearch.{FindsFace}
 use Rattle.pm_open.proofs.FaceSearch.{IsFinding-found, IsFinding-more, IsFinding-few}

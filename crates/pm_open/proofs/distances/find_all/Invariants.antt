@@ -1,5 +1,5 @@
 use Rattle.std.proofs.Common.{◌-◌}
-use Rattle.pm_map.specs.Search.{work_left}
+use Rattle.pm_map.specs.steps.Search.{work_left}
 use Rattle.pm_open.specs.steps.DistanceSearch.{IsFinding}
 use Rattle.pm_open.proofs.distances.find_all.Given as goal
 

@@ -1,6 +1,6 @@
 use Rattle.std.proofs.Common.{◌≡◌, ℕ, List, ◌∷◌, length, get_or, Some, sym, ◌∙◌, ap, subst, arith}
 use Rattle.pm_map.specs.declared.degrees.Around.TheVariants.{Face}
-use Rattle.pm_map.specs.CycleSize.{step_around}
+use Rattle.pm_map.specs.steps.Sizes.{step_around}
 use Rattle.pm_map.specs.FaceWalk.{darts_left, IsFaceWalk}
 use Rattle.pm_map.proofs.FaceWalkLemmas.{IsFaceWalk-last, IsFaceWalk-more, darts_left-last, darts_left-more}
 use Rattle.pm_map.proofs.face_walk.FaceWalkIterator.next.Goals as goal

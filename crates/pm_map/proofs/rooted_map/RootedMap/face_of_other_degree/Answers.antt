@@ -1,6 +1,6 @@
 use Rattle.std.proofs.Common.{◌≡◌, ℕ, List, length, vec_len, ap, ◌∙◌, subst, arith}
 use Rattle.std.specs.Prelude.{MatchOption}
-use Rattle.pm_map.specs.DegreeScan.{AreAdmitted, IsLeastEntry}
+use Rattle.pm_map.specs.steps.DegreeScan.{AreAdmitted, IsLeastEntry}
 use Rattle.pm_map.specs.Rotation.{structure_of}
 use Rattle.pm_map.specs.Structure.{dual}
 use Rattle.pm_map.proofs.DegreeRules.{read_whole, other_from_entry}

@@ -1,6 +1,6 @@
 use Rattle.std.proofs.Common.{ℕ, List, length, Some, sym, subst}
 use Rattle.pm_map.specs.declared.degrees.Around.TheVariants.{Face}
-use Rattle.pm_map.specs.CycleSize.{step_around}
+use Rattle.pm_map.specs.steps.Sizes.{step_around}
 use Rattle.pm_map.specs.FaceWalk.{until, IsFaceWalk, IsFaceFrom}
 use Rattle.pm_map.specs.Rotation.{structure_of}
 use Rattle.pm_map.specs.Structure.{dual}

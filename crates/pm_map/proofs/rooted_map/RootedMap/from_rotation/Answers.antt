@@ -2,7 +2,7 @@ use Rattle.std.proofs.Common.{◌≡◌, ℕ, List, pos, subst, sym, ◌∙◌, 
 use Rattle.std.proofs.lemmas.Int.{ints}
 use Rattle.pm_map.specs.Structure.{IsConnected}
 use Rattle.pm_map.specs.Plane.{euler_number}
-use Rattle.pm_map.specs.ReachAnswers.{IsReachAnswer, IsReachedWhole}
+use Rattle.pm_map.specs.steps.ReachAnswers.{IsReachAnswer, IsReachedWhole}
 use Rattle.pm_map.specs.Rotation.{structure_of}
 use Rattle.pm_map.proofs.EulerLemmas.{euler_two, euler_other}
 use Rattle.pm_map.proofs.TwinLemmas.{structure_of_parts}

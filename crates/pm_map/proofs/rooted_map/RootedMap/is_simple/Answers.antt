@@ -2,7 +2,7 @@ use Rattle.std.proofs.Common.{ℕ, List, sym, subst, arith}
 use Rattle.std.proofs.lemmas.List.Sorted.{IsPermutation-sym}
 use Rattle.pm_perm.specs.Lists.{IsLeaderList}
 use Rattle.pm_map.specs.declared.simple.Ends.{Ends}
-use Rattle.pm_map.specs.Ends.{AreEnds, AreGrouped, AreSimple}
+use Rattle.pm_map.specs.steps.Ends.{AreEnds, AreGrouped, AreSimple}
 use Rattle.pm_map.proofs.SimpleLemmas.{AreSorted, AreGrouped-sorted, AreSimple-permutation, simple_from_ends, ends_from_simple}
 use Rattle.pm_map.proofs.rooted_map.RootedMap.is_simple.Goals as goal
 

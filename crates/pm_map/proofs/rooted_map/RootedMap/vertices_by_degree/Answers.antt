@@ -1,6 +1,7 @@
 use Rattle.std.proofs.Common.{◌≡◌, ℕ, List, length, suc, vec_len, ap, sym, ◌∙◌, subst, arith}
 use Rattle.pm_map.specs.Rotation.{structure_of}
-use Rattle.pm_map.specs.DegreeTable.{AreVertexCounts, IsTableOf}
+use Rattle.pm_map.specs.DegreeTable.{AreVertexCounts}
+use Rattle.pm_map.specs.steps.Tables.{IsTableOf}
 use Rattle.pm_map.proofs.DegreeRules.{read_whole}
 use Rattle.pm_map.proofs.TableLemmas.{vertex_counts}
 use Rattle.pm_map.proofs.rooted_map.RootedMap.vertices_by_degree.Goals as goal

@@ -1,12 +1,8 @@
 -- What a list of darts keeps while whole vertices are appended to it.
 use Rattle.std.specs.Prelude.{◌≡◌, ℕ, ◌<◌, ◌≤◌, Bool, false, IsTrue, List, ◌++◌, length, slice_index, slice_index_or}
 use Rattle.pm_map.specs.Structure.{Structure}
-use Rattle.pm_map.specs.Meeting.{Stands, IsVertexFrom, Meets, IsMeetingList, darts_of}
-
--- the list has darts below the bound, and none of them twice
-pub record HasEachOnce (bound : ℕ) (darts : List ℕ) : Type 0 where
-  pub stays : (k : ℕ) → k < length darts → slice_index darts k < bound
-  pub injective : (j k : ℕ) → j < length darts → k < length darts → slice_index darts j ≡ slice_index darts k → j ≡ k
+use Rattle.pm_map.specs.Meeting.{Stands, IsVertexFrom, Meets, darts_of}
+use Rattle.pm_canon.specs.MeetingOrder.{HasEachOnce}
 
 -- some dart of the list is followed by this one
 pub record Precedes (s : Structure) (darts : List ℕ) (d : ℕ) : Type 0 where
@@ -44,11 +40,3 @@ pub record IsMeeting (s : Structure) (marks : List Bool) (darts : List ℕ) (pla
   pub within : place ≤ length darts
   pub twins : (k : ℕ) → k < place → Stands darts (s.twin (slice_index darts k))
   pub kept : IsKept s marks darts
-
--- the list is the meeting list, and has each dart once
-pub record IsMeetingOrder (s : Structure) (darts : List ℕ) : Type 0 where
-  pub vertices : List (List ℕ)
-  pub is_list : IsMeetingList s vertices
-  pub order : darts ≡ darts_of vertices
-  pub once : HasEachOnce s.darts darts
-  pub all : (d : ℕ) → d < s.darts → Stands darts d

@@ -1,11 +1,11 @@
 -- The search for the darts that the root reaches, face by face: marked darts were met, and those on the stack wait.
-use Rattle.std.specs.Prelude.{◌≡◌, ℕ, ◌+◌, ◌<◌, ◌≤◌, ◌⊎◌, ◌&&◌, Bool, false, eqb, List, length, slice_index, slice_index_or, sum_by, if◌then◌else◌}
+use Rattle.std.specs.Prelude.{◌≡◌, ℕ, ◌+◌, ◌<◌, ◌≤◌, ◌⊎◌, ◌&&◌, Bool, false, eqb, List, length, slice_index_or, sum_by, if◌then◌else◌}
 use Rattle.pm_perm.specs.Count.{count_below}
 use Rattle.pm_perm.specs.Cycles.{leader, IsInCycle}
 use Rattle.pm_map.specs.Structure.{Structure, face_next}
-use Rattle.pm_map.specs.Rotation.{twin}
+use Rattle.pm_map.specs.Rotation.{face_step}
 use Rattle.pm_map.specs.Meeting.{Stands}
-use Rattle.pm_map.specs.Marks.{IsMarked}
+use Rattle.pm_map.specs.steps.Marks.{IsMarked}
 use Rattle.pm_map.specs.Reached.{IsReached}
 
 -- waiting darts are marked; the faces of marked darts are marked and reached, and this is their number
@@ -25,10 +25,6 @@ pub record IsSearch (s : Structure) (marks : List Bool) (stack : List ℕ) (face
 -- what is left to do: two for each dart that isn't marked, and one for each that waits
 abbrev pub work_left : List Bool → List ℕ → ℕ
 work_left marks stack = sum_by (λ is_marked. if is_marked then 0 else 2) marks + length stack
-
--- the dart after this one around its face
-abbrev pub face_step : List ℕ → ℕ → ℕ
-face_step sigma d = slice_index sigma (twin d)
 
 -- Darts of the face of `start` are marked and wait that weren't marked before, and nothing else changes. Each is followed by
 -- a marked dart, or by `dart`, at which the walk stands.

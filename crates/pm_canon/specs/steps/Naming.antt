@@ -2,7 +2,7 @@
 use Rattle.std.specs.Prelude.{◌≡◌, ℕ, ◌+◌, ◌*◌, ◌<◌, Bool, List, length, slice_index}
 use Rattle.pm_map.specs.Rotation.{twin}
 use Rattle.pm_map.specs.Canonical.{first_mentions}
-use Rattle.pm_canon.specs.Kept.{MarksDarts}
+use Rattle.pm_canon.specs.steps.Kept.{MarksDarts}
 
 -- the k-th edge in the order of first mention has that mention named 2k, and its twin 2k+1
 pub record NamesMentions (darts names : List ℕ) : Type 0 where
