@@ -1,17 +1,17 @@
-pub mod ClosedMap
+mod ClosedMap
 pub mod ClosureLemmas
 pub mod ClosureStructure
 pub mod Heads
-pub mod JoiningSteps
+mod JoiningSteps
 pub mod KeptDegrees
-pub mod LevelSteps
+mod LevelSteps
 pub mod LowWords
 pub mod NodeVertices
-pub mod RotationSteps
 pub mod OneClosing
 pub mod OneClosure
-pub mod PlaneClosure
+mod PlaneClosure
 pub mod PlaneMap
 pub mod RootedClosure
+mod RotationSteps
 pub mod SomeClosure
 pub mod TwinLemmas

@@ -1,19 +1,17 @@
 -- There is one answer to a tree that is to be closed.
-use Rattle.std.proofs.Common.{◌≡◌, ℕ, ◌<◌, List, length, Result, Ok, Err, refl, sym, ap, ◌∙◌, subst, inl, inr, arith}
+use Rattle.std.proofs.Common.{◌≡◌, ℕ, ◌<◌, List, length, Ok, Err, refl, sym, ap, ◌∙◌, subst, inl, inr, arith}
 use Rattle.std.specs.Prelude.{slice_index}
 use Rattle.std.proofs.lemmas.Bool.{cases_eq}
 use Rattle.std.proofs.lemmas.Grind.{same_number_lists}
 use Rattle.pm_perm.proofs.Permutations.{IsReached, reached}
 use Rattle.pm_trees.specs.Blossoming.{IsBlossoming}
 use Rattle.pm_trees.specs.Word.{contour}
-use Rattle.pm_match.specs.Pair.{IsBalanced}
 use Rattle.pm_map.specs.EdgeNumbers.{dart_of}
 use Rattle.pm_map.specs.Rotation.{RotationSystem}
 use Rattle.pm_map.proofs.NumberedEdges.{dart_of-same}
 use Rattle.pm_close.specs.declared.closing.Closed.{Closed}
-use Rattle.pm_close.specs.declared.closing.CloseRefusal.{CloseRefusal}
 use Rattle.pm_close.specs.declared.closing.CloseRefusal.TheVariants.{Memory, NotBalanced}
-use Rattle.pm_close.specs.Closing.{ClosesTo, IsClosing, ClosingHasOneAnswer}
+use Rattle.pm_close.specs.Closing.{ClosesTo, ClosingHasOneAnswer}
 use Rattle.pm_close.specs.Level.{IsLevel}
 use Rattle.pm_close.proofs.OneClosure.{HasAcross, closures_twins}
 use Rattle.pm_close.proofs.RootedClosure.{has_across, one_closure}

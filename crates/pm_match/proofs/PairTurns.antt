@@ -1,5 +1,5 @@
 -- Pairs and free leaves of a ring that is read from another place on.
-use Rattle.std.proofs.Common.{◌≡◌, ◌≢◌, ℕ, zero, suc, ◌+◌, ◌-◌, ◌%◌, ◌<◌, ◌≤◌, inl, inr, eqb, true, false, List, ◌++◌, length, get_or, take, drop, ◌↔◌, refl, sym, ◌∙◌, ap, subst, add-one, arith, length-drop, get_or-drop}
+use Rattle.std.proofs.Common.{◌≡◌, ◌≢◌, ℕ, zero, suc, ◌+◌, ◌-◌, ◌%◌, ◌<◌, inl, inr, eqb, true, false, List, ◌++◌, length, get_or, drop, refl, sym, ◌∙◌, ap, subst, add-one, arith, length-drop, get_or-drop}
 use Rattle.std.specs.Prelude.{slice_index}
 use Rattle.std.proofs.lemmas.Bool.{cases_lt, cases_eq, ne_eqb, eq-eqb}
 use Rattle.std.proofs.lemmas.List.{length-append}

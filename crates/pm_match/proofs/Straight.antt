@@ -1,11 +1,10 @@
 -- In a balanced contour no pair passes the plant, and pairs are nested.
-use Rattle.std.proofs.Common.{◌≡◌, ◌≢◌, ℕ, zero, suc, ◌+◌, ◌<◌, ◌≤◌, ◌⊎◌, inl, inr, List, length, refl, sym, ap, ◌∙◌, subst, arith}
-use Rattle.std.specs.Prelude.{slice_index}
+use Rattle.std.proofs.Common.{◌≡◌, ℕ, suc, ◌+◌, ◌<◌, ◌≤◌, inl, inr, List, length, sym, ◌∙◌, subst, arith}
 use Rattle.std.proofs.lemmas.Bool.{cases_lt, cases_eq}
-use Rattle.pm_trees.specs.declared.letters.TheConstants.{LEAF, BUD}
+use Rattle.pm_trees.specs.declared.letters.TheConstants.{LEAF}
 use Rattle.pm_match.specs.Pair.{IsPair, IsFree}
-use Rattle.pm_match.proofs.Counts.{letter, buds, leaves, letter-first, letter-second, at_bud, at_leaf, bud_within, leaf_within, HasSurplus}
-use Rattle.pm_match.proofs.Meeting.{IsMeeting, IsMet, met_of_pair, met_by_one, met_after, pair_first, pair_of_meeting}
+use Rattle.pm_match.proofs.Counts.{letter, buds, leaves, letter-first, letter-second, at_bud, at_leaf, leaf_within, HasSurplus}
+use Rattle.pm_match.proofs.Meeting.{IsMeeting, met_of_pair, met_by_one, met_after, pair_first, pair_of_meeting}
 
 -- a contour with a free plant
 pub record IsStraight (places : List ℕ) : Type 0 where

@@ -5,7 +5,7 @@ ghost use Rattle.pm_trees.specs.Word.{count, contour};
 ghost use Rattle.pm_match.specs.Pairing.{IsPairing};
 ghost use Rattle.pm_match.specs.steps.Waiting.{Opens, Meets, Passes, top_of};
 
-use pm_trees::{BUD, LEAF, Tree};
+use pm_trees::{BUD, LEAF, Tree, letter_at};
 use std::alloc::{AllocError, Global};
 use std::marker::Model;
 
@@ -43,18 +43,6 @@ impl Pairing {
         ensures { result ≡ (self.now.first_free, self.now.second_free) }
     {
         (self.first_free, self.second_free)
-    }
-}
-
-// The letter at a place of the contour: the plant is a leaf.
-fn letter_at(letters: &[u8], place: u32) -> u8
-    requires { place ≤ length letters.now }
-    ensures { result ≡ slice_index (contour letters.now) place }
-{
-    if place == 0 {
-        LEAF
-    } else {
-        letters[place as usize - 1]
     }
 }
 

@@ -1,27 +1,27 @@
-pub mod Cutting
-pub mod EdgeKinds
-pub mod EvenDegrees
-pub mod FaceSearch
-pub mod Folded
+mod Cutting
+mod EdgeKinds
+mod EvenDegrees
+mod FaceSearch
+mod Folded
 pub mod KeptByOpening
-pub mod KeptEdges
-pub mod LevelsAlong
-pub mod NestedEdges
-pub mod Opened
-pub mod OneOpening
-pub mod OpenedWalk
-pub mod OneApart
-pub mod PassedDarts
-pub mod PlaceKinds
+mod KeptEdges
+mod LevelsAlong
+mod NestedEdges
+mod OneApart
+mod OneOpening
+mod Opened
+mod OpenedWalk
+mod PassedDarts
+mod PlaceKinds
 pub mod SomeOpening
-pub mod Spelled
-pub mod SpelledNodes
-pub mod SpelledPairs
-pub mod TreeLevels
-pub mod TreeWalk
+mod Spelled
+mod SpelledNodes
+mod SpelledPairs
+mod TreeLevels
+mod TreeWalk
 pub mod UniqueOpening
-pub mod UniqueWalk
-pub mod WalkLoop
-pub mod Walked
-pub mod Walks
-pub mod WholeWalk
+mod UniqueWalk
+mod WalkLoop
+mod Walked
+mod Walks
+mod WholeWalk

@@ -13,6 +13,4 @@ pub use laws::{
 pub use opening::{OpenRefusal, open_map};
 
 #[cfg(test)]
-mod distance_tests;
-#[cfg(test)]
-mod opening_tests;
+mod tests;

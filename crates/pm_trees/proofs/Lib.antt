@@ -1,4 +1,4 @@
-pub mod Ahead
+mod Ahead
 pub mod Balance
 pub mod Binomials
 pub mod Bracketed
@@ -6,28 +6,28 @@ pub mod CountedPairs
 pub mod Dyck
 pub mod LeafCounts
 pub mod LeafTurns
-pub mod Least
+mod Least
 pub mod Levels
-pub mod Listing
+mod Listing
 pub mod Nesting
 pub mod Own
-pub mod PairRules
-pub mod Pairing
-pub mod Profiles
+mod PairRules
+mod Pairing
+mod Profiles
 pub mod Ranked
 pub mod Ranking
-pub mod Reading
+mod Reading
 pub mod Replants
 pub mod RingPlaces
 pub mod Rings
-pub mod Spelling
+mod Spelling
 pub mod Stack
 pub mod Subtree
 pub mod Tables
 pub mod Tally
-pub mod TreeEdges
-pub mod Turns
+mod TreeEdges
+mod Turns
 pub mod Unique
-pub mod UniqueProfile
-pub mod Walk
+mod UniqueProfile
+mod Walk
 pub mod Weights

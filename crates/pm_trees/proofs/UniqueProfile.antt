@@ -1,12 +1,11 @@
 -- There is one answer to a list of pairs, and one to a table of counts.
-use Rattle.std.proofs.Common.{◌≡◌, ℕ, zero, suc, ◌<◌, inl, inr, List, length, slice_index, Result, Ok, Err, refl, ap, sym, ◌∙◌, subst, arith}
-use Rattle.std.proofs.lemmas.Bool.{cases_eq}
+use Rattle.std.proofs.Common.{◌≡◌, ℕ, zero, suc, ◌<◌, List, slice_index, Result, Ok, Err, refl, ap, sym, ◌∙◌, subst, arith}
 use Rattle.pm_trees.specs.declared.profile.Profile.{Profile}
 use Rattle.pm_trees.specs.declared.profile.ProfileRefusal.{ProfileRefusal}
 use Rattle.pm_trees.specs.declared.profile.ProfileRefusal.TheVariants.{Memory, Pair, TooMany}
 use Rattle.pm_trees.specs.First.{IsFirst}
 use Rattle.pm_trees.specs.Degrees.{AreListed}
-use Rattle.pm_trees.specs.Pairs.{ArePairs, BreaksPair, IsProfile, degree_before, pair_at}
+use Rattle.pm_trees.specs.Pairs.{ArePairs, BreaksPair, IsProfile, pair_at}
 use Rattle.pm_trees.specs.Pairs.BreaksPair.{empty, wrong}
 use Rattle.pm_trees.specs.Profile.{HasTooMany, IsProfileAnswer, IsTableAnswer, PairsHaveOneAnswer, TableHasOneAnswer}
 use Rattle.pm_trees.proofs.CountedPairs.{AreCounted, one_counted}

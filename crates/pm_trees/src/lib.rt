@@ -21,7 +21,7 @@ pub use laws::{
     answer_is_unique, profile_answer_is_unique, profiles_are_kept, trees_are_replanted,
 };
 pub use leaf_places::leaf_place;
-pub use letters::{BUD, CLOSE, LEAF, OPEN};
+pub use letters::{BUD, CLOSE, LEAF, OPEN, letter_at};
 pub use patterns::{SLOT, pattern, pattern_count, patterns_are_ranked, rank};
 pub use profile::{Profile, ProfileRefusal};
 pub use read::read_tree;
@@ -29,14 +29,6 @@ pub use replanting::replant;
 pub use tree::{Tree, TreeRefusal};
 
 #[cfg(test)]
-mod degree_tests;
-#[cfg(test)]
-mod leaf_tests;
-#[cfg(test)]
-mod pattern_tests;
-#[cfg(test)]
 mod profile_tests;
-#[cfg(test)]
-mod replanting_tests;
 #[cfg(test)]
 mod tests;

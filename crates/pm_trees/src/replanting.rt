@@ -1,6 +1,7 @@
 //! Replanting: the same plane tree, planted at another of its leaves.
 ghost use Rattle.std.specs.Prelude.{◌≡◌, ◌<◌, ◌≤◌, ◌^◌, IfOk, length, slice_index};
 ghost use Rattle.pm_trees.specs.Blossoming.{leaves};
+ghost use Rattle.pm_trees.specs.declared.letters.TheConstants.{LEAF};
 ghost use Rattle.pm_trees.specs.Replanted.{IsReplanted, IsTurned};
 ghost use Rattle.pm_trees.specs.steps.TurnedLetter.{IsTurnedLetter};
 ghost use Rattle.pm_trees.specs.Replanting.{IsAlike};
@@ -8,7 +9,7 @@ ghost use Rattle.pm_trees.specs.Word.{IsBracketing, IsInOrder, contour};
 
 use crate::bracketing::brackets;
 use crate::leaf_places::leaf_place;
-use crate::letters::{CLOSE, LEAF, OPEN};
+use crate::letters::{CLOSE, OPEN, letter_at};
 use crate::tree::Tree;
 use std::alloc::{AllocError, Global};
 
@@ -63,16 +64,4 @@ fn turned_letter(word: &[u8], other: &[u32], start: u32, steps: u32) -> u8
     }
     let steps_across = (other[place as usize] + places - start) % places;
     if steps < steps_across { OPEN } else { CLOSE }
-}
-
-/// The letter at a place of the contour.
-fn letter_at(word: &[u8], place: u32) -> u8
-    requires { place ≤ length word.now }
-    ensures { result ≡ slice_index (contour word.now) place }
-{
-    if place == 0 {
-        LEAF
-    } else {
-        word[place as usize - 1]
-    }
 }

@@ -1,4 +1,4 @@
-use Rattle.std.proofs.Common.{ℕ, ◌≡◌, ◌∙◌, ap, sym, arith}
+use Rattle.std.proofs.Common.{◌≡◌, ◌∙◌, ap, arith}
 use Rattle.pm_trees.specs.Pairs.{degree_sum}
 use Rattle.pm_trees.proofs.PairRules.{degree_sum-even}
 use Rattle.pm_trees.proofs.profile.Profile.edges.Goals as goal

@@ -1,4 +1,4 @@
-use Rattle.std.proofs.Common.{length, ap, sym, arith}
+use Rattle.std.proofs.Common.{length, ap, arith}
 use Rattle.pm_trees.proofs.TreeEdges.{edges_twice}
 use Rattle.pm_trees.proofs.tree.Tree.edges.Goals as goal
 

@@ -1,13 +1,13 @@
-//! Worked openings.
+//! Worked openings, and trees that are closed and opened.
 use super::{OpenRefusal, open_map};
 use pm_close::close_tree;
 use pm_map::RootedMap;
-use pm_trees::{Tree, read_tree};
+use pm_trees::{Tree, read_tree, replant};
 use std::alloc::Global;
 use std::process::Abort;
 use std::test::Fail;
 
-// What the map with this rotation and this root is answered.
+/// What the map with this rotation and this root is answered.
 fn answer_to(
     rt: &impl Abort,
     alloc: Global,
@@ -46,14 +46,25 @@ fn refuses_odd_degrees(rt: HostRuntime) -> Result<(), Fail> {
     Ok(())
 }
 
-// The tree with this word closes to a map that opens to it.
+/// The tree with this word closes to a map that opens to it.
 fn there_and_back(rt: &impl Abort, alloc: Global, word: &[u8]) -> Result<(), Fail> {
-    assert!(rt; word.len() < 10_000);
+    assert!(rt; word.len() < 10_000_000);
     let tree = read_tree(alloc, word)?;
     let closed = close_tree(alloc, &tree)?;
     assert!(rt; closed.map.edges() > 0);
     let opened = open_map(alloc, &closed.map)?;
     assert_eq!(rt; opened.letters(), word);
+    Ok(())
+}
+
+/// The tree with this word, planted at its last leaf and then at the old plant, is as before.
+fn around_and_back(rt: &impl Abort, alloc: Global, word: &[u8]) -> Result<(), Fail> {
+    assert!(rt; word.len() < 10_000_000);
+    let tree = read_tree(alloc, word)?;
+    assert!(rt; tree.leaves() > 0);
+    let turned = replant(alloc, &tree, tree.leaves() - 1)?;
+    assert!(rt; turned.leaves() > 1);
+    assert_eq!(rt; replant(alloc, &turned, 1)?.letters(), word);
     Ok(())
 }
 
@@ -65,16 +76,17 @@ fn closes_and_opens(rt: HostRuntime) -> Result<(), Fail> {
     Ok(())
 }
 
-// A path of 2,000 nodes, each of degree 4.
+// A path of 100,000 nodes, each of degree 4.
 #[test]
 fn opens_a_deep_tree(rt: HostRuntime) -> Result<(), Fail> {
     let mut word = Vec::new(rt.alloc());
-    for _ in 0..1_999 {
+    for _ in 0..99_999 {
         word.extend_from_slice(b"b(")?;
     }
     word.extend_from_slice(b"bll")?;
-    for _ in 0..1_999 {
+    for _ in 0..99_999 {
         word.extend_from_slice(b")l")?;
     }
+    around_and_back(&rt, rt.alloc(), &word)?;
     there_and_back(&rt, rt.alloc(), &word)
 }
