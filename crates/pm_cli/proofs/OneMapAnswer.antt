@@ -15,7 +15,7 @@ use Rattle.pm_mapfile.specs.MapFile.{IsMapFile}
 use Rattle.pm_mapfile.specs.MapText.{IsMapText}
 use Rattle.pm_mapfile.specs.Answers.{AnswersFile, IsMapFileAnswer}
 use Rattle.pm_mapfile.proofs.OneAnswer.{one_file_answer}
-use Rattle.pm_euler.specs.Sampling.{HasOneAnswer}
+use Rattle.pm_class.specs.Sampling.{HasOneAnswer}
 use Rattle.pm_cli.specs.declared.refusal.Limit.TheVariants.{Bytes, Letters, Edges}
 use Rattle.pm_cli.specs.declared.refusal.MapRule.TheVariants.{Permutation, Connected, Euler, Empty, Vertex, Face, Loop, Double}
 use Rattle.pm_cli.specs.declared.refusal.Refusal.{Refusal}

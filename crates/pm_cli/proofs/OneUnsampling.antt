@@ -13,8 +13,8 @@ use Rattle.pm_mapfile.specs.declared.refusal.FileRefusal.{FileRefusal}
 use Rattle.pm_mapfile.specs.Answers.{IsSampleFileAnswer}
 use Rattle.pm_mapfile.specs.MapFile.{IsSampleFile}
 use Rattle.pm_mapfile.proofs.OneAnswer.{one_sample_answer}
-use Rattle.pm_euler.specs.Sampling.{HasOneAnswer}
-use Rattle.pm_euler.specs.Unsampling.{IsUnsampled, HasOneList}
+use Rattle.pm_class.specs.Sampling.{HasOneAnswer}
+use Rattle.pm_class.specs.Unsampling.{IsUnsampled, HasOneList}
 use Rattle.pm_cli.specs.declared.refusal.Refusal.{Refusal}
 use Rattle.pm_cli.specs.declared.refusal.Refusal.TheVariants.{Invalid}
 use Rattle.pm_cli.specs.MapCommands.{IsRuleOf}

@@ -12,7 +12,7 @@ use Rattle.pm_map.specs.Rotation.{RotationSystem}
 use Rattle.pm_mapfile.proofs.CanonicalTexts.{canonical_has_text}
 use Rattle.pm_draw.specs.Drawn.{generator_of, words_of, drawn}
 use Rattle.pm_draw.proofs.ValidDraws.{GivesWords, generator_gives_words, drawn_is_valid}
-use Rattle.pm_euler.specs.Sampling.{EachListIsSampled}
+use Rattle.pm_class.specs.Sampling.{EachListIsSampled}
 use Rattle.pm_cli.specs.Drawing.{IsRecord, left_after, AreRecords, RecordsGoOn}
 
 module _ (bounds residues : List ℕ) (has : RotationSystem → Type 0) (samples : List ℕ → RotationSystem → List ℕ → Type 0)

@@ -8,7 +8,7 @@ use Rattle.pm_map.specs.declared.refusal.MapRefusal.{MapRefusal}
 use Rattle.pm_map.specs.Rotation.{RotationSystem}
 use Rattle.pm_mapfile.specs.Answers.{AnswersFile}
 use Rattle.pm_mapfile.specs.MapFile.{IsSampleFile}
-use Rattle.pm_euler.specs.Unsampling.{IsUnsampled}
+use Rattle.pm_class.specs.Unsampling.{IsUnsampled}
 use Rattle.pm_cli.specs.declared.refusal.Refusal.{Refusal}
 use Rattle.pm_cli.specs.declared.refusal.Refusal.TheVariants.{Invalid}
 use Rattle.pm_cli.specs.MapCommands.{RefusesFile, IsRuleOf}

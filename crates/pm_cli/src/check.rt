@@ -7,7 +7,7 @@ ghost use Rattle.pm_cli.specs.MapReading.{IsStopOfClass};
 
 use crate::map_file::map_of_file;
 use crate::refusal::{Limit, MapRule, Refusal, Stop};
-use pm_euler::MapClass;
+use pm_class::MapClass;
 use pm_limits::MAX_EDGES;
 use pm_map::{ClassRefusal, RootedMap};
 use pm_text::put_number;

@@ -7,7 +7,7 @@ ghost use Rattle.pm_cli.specs.Ending.{IsWritingRecords};
 use crate::refusal::Stop;
 use crate::sample::sample_text;
 use pm_draw::{draw_list, rng_of};
-use pm_euler::{MapClass, SampleRefusal};
+use pm_class::{MapClass, SampleRefusal, each_list_is_sampled};
 use pm_io::{Failed, Sink};
 use pm_lists::{Bounds, put_list};
 use rand_pcg::Pcg64;
@@ -46,7 +46,7 @@ fn records_go_on<C: MapClass>(size: &C::Size, limits: &[u64])
     requires bounds { AreBounds limits.now }
     ensures { RecordsGoOn (C.choice_limits size.now) (C.samples size.now) }
 {
-    C::is_sampled_once();
+    each_list_is_sampled::<C>();
 }
 
 // `draw CLASS SIZE SEED COUNT`: writes so many records, each made whole before its one write, and hands them on. One

@@ -5,7 +5,7 @@ ghost use Rattle.pm_cli.specs.Sampling.{IsTextOfSample, Samples};
 
 use crate::choices_file::read_choices;
 use crate::refusal::{Refusal, Stop};
-use pm_euler::{MapClass, Sample, SampleRefusal};
+use pm_class::{MapClass, Sample, SampleRefusal};
 use pm_lists::put_list;
 use pm_mapfile::map_bytes;
 use std::alloc::{AllocError, Global};

@@ -7,7 +7,7 @@ use crate::check::stop_of_class;
 use crate::choices_file::choices_text;
 use crate::map_file::pair_of_file;
 use crate::refusal::{Refusal, Stop};
-use pm_euler::{MapClass, UnsampleRefusal};
+use pm_class::{MapClass, UnsampleRefusal};
 use pm_limits::MAX_EDGES;
 use std::alloc::Global;
 

@@ -3,7 +3,8 @@ ghost use Rattle.pm_euler.specs.Quartic.{IsQuarticSize};
 ghost use Rattle.pm_cli.specs.declared.words.TheConstants.{MAX_RECORDS};
 
 use crate::profile_word::read_profile;
-use pm_euler::{MapClass, Quartic};
+use pm_class::MapClass;
+use pm_euler::Quartic;
 use pm_text::number;
 use pm_trees::Profile;
 use std::alloc::{AllocError, Global};

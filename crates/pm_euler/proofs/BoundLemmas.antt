@@ -35,6 +35,10 @@ pub length-code_bounds : (n : ℕ) → length (code_bounds n) ≡ n
 length-code_bounds zero = refl
 length-code_bounds (suc n) = ap suc (length-code_bounds n)
 
+pub code_bounds_low : (most n : ℕ) → n ≤ most → All (λ bound. bound ≤ most) (code_bounds n)
+code_bounds_low most zero few = All-nil (λ (bound : ℕ). bound ≤ most)
+code_bounds_low most (suc n) few = All-cons (λ (bound : ℕ). bound ≤ most) (suc n) (code_bounds n) few (code_bounds_low most n (omega arith))
+
 -- the bound at a place
 pub growth_bound : (grown n k : ℕ) → k < n → slice_index (growth_bounds grown n) k ≡ 2 * (2 * (grown + k) + 1)
 growth_bound grown (suc n) zero less = let e : grown ≡ grown + 0 = omega arith in ap (λ (g : ℕ). 2 * (2 * g + 1)) e

@@ -18,7 +18,7 @@ use Rattle.pm_euler.specs.Eulerian.{SamplesEulerian, codes_by_degree}
 use Rattle.pm_euler.specs.PlantedAnew.{IsPlantedAnew}
 use Rattle.pm_euler.specs.Kinds.{IsWordOfKinds, kind_of, kinds_of}
 use Rattle.pm_euler.specs.Objects.{half_of, halves_of, nodes_of_profile, objects_of}
-use Rattle.pm_euler.specs.Unsampling.{HasOneList}
+use Rattle.pm_class.specs.Unsampling.{HasOneList}
 use Rattle.pm_euler.proofs.EulerianBounds.{arrangement_long, ranks_long, length-eulerian_choices}
 use Rattle.pm_euler.proofs.EulerianMaps.{find_pair}
 use Rattle.pm_euler.proofs.EulerianSamples.{planted_tree}

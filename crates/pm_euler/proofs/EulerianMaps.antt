@@ -20,7 +20,7 @@ use Rattle.pm_trees.specs.Profile.{HasTooMany}
 use Rattle.pm_trees.specs.Degrees.{AreListed}
 use Rattle.pm_trees.proofs.CountedPairs.{AreCounted, sum_bounded, one_counted}
 use Rattle.pm_euler.specs.Eulerian.{IsEulerianAnswer}
-use Rattle.pm_euler.specs.Sampling.{IsSizeWhereAnswered, HasOneAnswer}
+use Rattle.pm_class.specs.Sampling.{IsSizeWhereAnswered, HasOneAnswer}
 
 -- the pair with a degree, or there is none
 pub find_pair : (pairs : List (ℕ × ℕ)) (degree n : ℕ) → ((k : ℕ) × (k < n) × ((pair_at pairs k).0 ≡ degree)) ⊎ ((k : ℕ) → k < n → (pair_at pairs k).0 ≢ degree)

@@ -26,6 +26,7 @@ use Rattle.pm_map.specs.declared.admitted.Degrees.TheVariants.{EvenUpTo}
 use Rattle.pm_open.specs.Opening.{IsOpening}
 use Rattle.pm_words.specs.Word.{IsGood, turned}
 use Rattle.pm_words.specs.Plane.{letter_of}
+use Rattle.pm_class.specs.OneToOne.{IsMember, IsGiven}
 use Rattle.pm_euler.specs.Bounds.{code_bounds, eulerian_choices, eulerian_residues}
 use Rattle.pm_euler.specs.Closed.{IsCanonicalClosure}
 use Rattle.pm_euler.specs.Eulerian.{ArePreordered, SamplesEulerian}
@@ -34,7 +35,6 @@ use Rattle.pm_euler.specs.Objects.{half_of, halves_of, nodes_of_profile, letters
 use Rattle.pm_euler.specs.PlanePlanted.{IsPlantedPlane}
 use Rattle.pm_euler.specs.PlantedAnew.{IsPlantedAnew}
 use Rattle.pm_euler.specs.Unplanted.{IsUnplanted}
-use Rattle.pm_euler.specs.Unsampling.{EachPairIsSampled}
 use Rattle.pm_euler.proofs.EulerianBounds.{valid_cons, valid_append, valid_code}
 use Rattle.pm_euler.proofs.EulerianMaps.{profile_admits, with_profile}
 use Rattle.pm_euler.proofs.EulerianParts.{AreParts, parts_of}
@@ -255,12 +255,15 @@ list_of_tree pairs kinds map residue is rooted canonical has r word free u plant
           (list_of_objects pairs kinds map r.start r.codes r.old_plant word free u.turned ranks.0 is r.start_less planted f ranks.1 u.few u.is_anew (canonical_closes map r.old_plant word free rooted canonical u)),
     )
 
-pub each_eulerian_pair_is_sampled : (pairs : List (ℕ × ℕ)) → IsProfile pairs
-    → EachPairIsSampled (eulerian_choices pairs) (eulerian_residues pairs) (λ m. IsEulerian (structure_of m) pairs) (SamplesEulerian pairs)
-each_eulerian_pair_is_sampled pairs is map residue rooted canonical has valid =
+-- a law: each canonical map with these degrees comes with each valid residue from some list
+pub each_eulerian_pair : (pairs : List (ℕ × ℕ)) → IsProfile pairs → (map : RotationSystem) (residue : List ℕ) → IsMember (λ m. IsEulerian (structure_of m) pairs) map → IsValidList residue (eulerian_residues pairs)
+    → IsGiven (SamplesEulerian pairs) map residue
+each_eulerian_pair pairs is map residue member valid =
+    let rooted = member.rooted in
+    let has = member.in_class in
     let r = residue_parts pairs residue valid in
     let u = anew_exists map r.old_plant rooted (profile_darts pairs map is rooted has) (profile_degrees pairs map is rooted has)
     (λ opening o. let less = r.old_less in let many = opening_leaves pairs map is rooted has opening o in omega (arith, less, many)) in
     let kinds = kinds_exist u.word u.is.blossoming in
-    let l = list_of_tree pairs kinds.0 map residue is rooted canonical has r u.word u.free u.is kinds.1 in
-    (l.0, l.1.valid, l.1.given)
+    let l = list_of_tree pairs kinds.0 map residue is rooted member.canonical has r u.word u.free u.is kinds.1 in
+    record { choices = l.0; given = l.1.given }

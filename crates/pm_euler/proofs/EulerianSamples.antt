@@ -19,8 +19,8 @@ use Rattle.pm_euler.specs.Eulerian.{ArePreordered, SamplesEulerian, codes_by_deg
 use Rattle.pm_euler.specs.Objects.{halves_of, nodes_of_profile}
 use Rattle.pm_euler.specs.PlanePlanted.{IsPlantedPlane}
 use Rattle.pm_euler.specs.PlantedAnew.{IsPlantedAnew}
-use Rattle.pm_euler.specs.declared.sample.Sample.{Sample}
-use Rattle.pm_euler.specs.Sampling.{IsSampled, HasOneSample, EachListIsSampled}
+use Rattle.pm_class.specs.declared.sample.Sample.{Sample}
+use Rattle.pm_class.specs.Sampling.{IsSampled, HasOneSample, EachListIsSampled}
 use Rattle.pm_euler.proofs.ClosedAnew.{HasClosure, closed_anew}
 use Rattle.pm_euler.proofs.ClosedMaps.{canonical_closure_is_rooted}
 use Rattle.pm_euler.proofs.EulerianBounds.{arrangement_long, arrangement_is_valid, rank_is_valid, free_is_valid, eulerian_residue_is_valid}

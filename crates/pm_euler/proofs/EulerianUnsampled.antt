@@ -19,7 +19,7 @@ use Rattle.pm_euler.specs.Kinds.{IsWordOfKinds}
 use Rattle.pm_euler.specs.Objects.{nodes_of_profile}
 use Rattle.pm_euler.specs.ObjectsRead.{AreObjectsRead}
 use Rattle.pm_euler.specs.Unplanted.{IsUnplanted}
-use Rattle.pm_euler.specs.Unsampling.{IsUnsampled}
+use Rattle.pm_class.specs.Unsampling.{IsUnsampled}
 use Rattle.pm_euler.proofs.EulerianPairs.{IsListOf, list_of_objects, opening_leaves, profile_apart, ranks_of, residue_parts, unplanted_nodes}
 use Rattle.pm_euler.proofs.EulerianTrees.{profile_kinds}
 use Rattle.pm_euler.proofs.HalfCodes.{codes_exist}

@@ -4,6 +4,7 @@ pub mod ClosedMaps
 pub mod EntryTexts
 pub mod EulerianBounds
 pub mod EulerianChoices
+pub mod EulerianClass
 pub mod EulerianLists
 pub mod EulerianMaps
 pub mod EulerianPairs
@@ -34,6 +35,7 @@ pub mod PlantingTrees
 pub mod PlantingWords
 pub mod Preorders
 pub mod QuarticChoices
+pub mod QuarticClass
 pub mod QuarticLists
 pub mod QuarticMaps
 pub mod QuarticSamples

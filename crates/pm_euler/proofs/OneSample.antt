@@ -21,7 +21,7 @@ use Rattle.pm_map.specs.Rotation.{RotationSystem}
 use Rattle.pm_euler.specs.PlantedAnew.{IsFreeLeaf, IsPlantedAnew, first, second}
 use Rattle.pm_euler.specs.Closed.{IsCanonicalClosure}
 use Rattle.pm_euler.specs.Quartic.{IsQuarticSize, SamplesQuartic}
-use Rattle.pm_euler.specs.Sampling.{HasOneSample}
+use Rattle.pm_class.specs.Sampling.{HasOneSample}
 use Rattle.pm_euler.proofs.BoundLemmas.{length-quartic_choices, ranks_long}
 use Rattle.pm_euler.proofs.FreeLeaves.{anew_balanced}
 use Rattle.pm_euler.proofs.PlantingTrees.{planted_blossoming}

@@ -27,13 +27,14 @@ use Rattle.pm_map.proofs.DegreeCounts.{degree_counts_darts}
 use Rattle.pm_map.proofs.DegreesTaken.{dart_of_degree}
 use Rattle.pm_open.specs.Opening.{IsOpening}
 use Rattle.pm_open.proofs.KeptByOpening.{kept_degrees, kept_edges}
-use Rattle.pm_euler.specs.Bounds.{quartic_choices, quartic_residues}
+use Rattle.pm_class.specs.OneToOne.{IsMember, IsGiven}
+use Rattle.pm_euler.specs.Bounds.{quartic_residues}
 use Rattle.pm_euler.specs.Planted.{IsPlanted}
 use Rattle.pm_euler.specs.PlantedAnew.{IsPlantedAnew}
 use Rattle.pm_euler.specs.Closed.{IsCanonicalClosure}
 use Rattle.pm_euler.specs.Quartic.{IsQuarticSize, SamplesQuartic}
 use Rattle.pm_euler.specs.Unplanted.{IsUnplanted}
-use Rattle.pm_euler.specs.Unsampling.{HasOneList, EachPairIsSampled}
+use Rattle.pm_class.specs.Unsampling.{HasOneList}
 use Rattle.pm_euler.proofs.BoundLemmas.{length-quartic_choices, length-code_bounds, code_bound, ranks_long}
 use Rattle.pm_euler.proofs.OneUnplanting.{anew_is_once}
 use Rattle.pm_euler.proofs.PlantedReading.{planted_from_word}
@@ -58,7 +59,7 @@ pub quartic_admitted : (s : Structure) (n : ℕ) → IsQuartic s n → AllAdmitt
 quartic_admitted s n quartic d less = record { degree = 4; counted = quartic.degrees d less; admitted = (refl, omega arith) }
 
 -- the darts are four times the size
-quartic_darts : (map : RotationSystem) (n : ℕ) → IsRootedMap map → IsQuartic (structure_of map) n → length map.sigma ≡ 4 * n
+pub quartic_darts : (map : RotationSystem) (n : ℕ) → IsRootedMap map → IsQuartic (structure_of map) n → length map.sigma ≡ 4 * n
 quartic_darts map n rooted quartic =
     let four : 4 * vertices (structure_of map) ≡ length map.sigma = four_each (structure_of map) rooted.structure quartic.some quartic.degrees in
     let count = quartic.count in
@@ -157,12 +158,12 @@ pair_is_sampled n map old_plant code rooted canonical quartic valid =
           labelled.shapes labelled.labels_are labelled.arranged labelled.grows found.is.few found.is.is_anew (canonical_closes map old_plant found.word found.free rooted canonical found.is),
     )
 
--- a law: each canonical quartic map of the size comes with each valid residue from some valid list
-pub each_quartic_pair : (n : ℕ) → EachPairIsSampled (quartic_choices n) (quartic_residues n) (λ map. IsQuartic (structure_of map) n) (SamplesQuartic n)
-each_quartic_pair n map [] rooted canonical quartic valid = absurd (let l = valid.as_long in omega arith)
-each_quartic_pair n map (old_plant ∷ code) rooted canonical quartic valid =
-    let found = pair_is_sampled n map old_plant code rooted canonical quartic valid in
-    (found.0, found.1.valid, found.1)
+-- a law: each canonical quartic map of the size comes with each valid residue from some list
+pub each_quartic_pair : (n : ℕ) (map : RotationSystem) (residue : List ℕ) → IsMember (λ m. IsQuartic (structure_of m) n) map → IsValidList residue (quartic_residues n) → IsGiven (SamplesQuartic n) map residue
+each_quartic_pair n map [] member valid = absurd (let l = valid.as_long in omega arith)
+each_quartic_pair n map (old_plant ∷ code) member valid =
+    let found = pair_is_sampled n map old_plant code member.rooted member.canonical member.in_class valid in
+    record { choices = found.0; given = found.1 }
 
 -- a law: a quartic map and a residue come from no two lists
 pub one_quartic_list : (n : ℕ) → IsQuarticSize n → HasOneList (SamplesQuartic n)

@@ -12,7 +12,7 @@ use Rattle.pm_map.specs.ClassRules.{IsQuarticAnswer, AllAdmitted, IsLeastOther}
 use Rattle.pm_map.specs.declared.admitted.Degrees.TheVariants.{Exactly}
 use Rattle.pm_map.specs.declared.class_refusal.ClassRefusal.TheVariants.{Memory, Empty, TooMany, Vertex, Face, Loop, Double}
 use Rattle.pm_euler.specs.Quartic.{IsQuarticSize}
-use Rattle.pm_euler.specs.Sampling.{IsSizeWhereAnswered, HasOneAnswer}
+use Rattle.pm_class.specs.Sampling.{IsSizeWhereAnswered, HasOneAnswer}
 use Rattle.pm_map.proofs.DegreeRules.{least_other_is_unique}
 use Rattle.pm_map.proofs.DegreeTotals.{darts_of_degree}
 

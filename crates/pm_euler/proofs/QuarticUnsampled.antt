@@ -20,7 +20,7 @@ use Rattle.pm_euler.specs.Bounds.{quartic_choices, quartic_residues}
 use Rattle.pm_euler.specs.Quartic.{SamplesQuartic}
 use Rattle.pm_euler.specs.ShapeRead.{IsPlantedOf}
 use Rattle.pm_euler.specs.Unplanted.{IsUnplanted}
-use Rattle.pm_euler.specs.Unsampling.{IsUnsampled}
+use Rattle.pm_class.specs.Unsampling.{IsUnsampled}
 use Rattle.pm_euler.proofs.BoundLemmas.{length-code_bounds}
 use Rattle.pm_euler.proofs.PlantingTrees.{planted_length}
 use Rattle.pm_euler.proofs.QuarticLists.{opening_leaves, unplanted_size, unplanted_reads, tail_is_code, sample_from_labels}

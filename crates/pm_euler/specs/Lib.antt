@@ -9,7 +9,5 @@ pub mod PlanePlanted
 pub mod Planted
 pub mod PlantedAnew
 pub mod Quartic
-pub mod Sampling
 pub mod ShapeRead
 pub mod Unplanted
-pub mod Unsampling

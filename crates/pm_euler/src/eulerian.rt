@@ -1,26 +1,28 @@
 //! Eulerian maps: each vertex has an even degree.
 ghost use Rattle.std.specs.Prelude.{◌≡◌, ◌∷◌, ◌++◌, [], ℕ, suc, List, IfOk, IsTrue, ◌↔◌, ◌<◌, ◌^◌, length};
+ghost use Rattle.pm_limits.specs.declared.TheConstants.{MAX_EDGES};
 ghost use Rattle.pm_lehmer.specs.Lehmer.{IsArrangementCode};
-ghost use Rattle.pm_lists.specs.Valid.{IsValidList};
 ghost use Rattle.pm_map.specs.Classes.{IsEulerian};
 ghost use Rattle.pm_map.specs.Rotation.{structure_of};
 ghost use Rattle.pm_trees.specs.Pairs.{IsProfile, edges_of};
 ghost use Rattle.pm_euler.specs.Bounds.{eulerian_choices, eulerian_residues};
 ghost use Rattle.pm_euler.specs.Eulerian.{ArePreordered, IsEulerianAnswer, SamplesEulerian, codes_by_degree};
 ghost use Rattle.pm_euler.specs.Objects.{halves_of};
-ghost use Rattle.pm_euler.specs.Sampling.{IsSampled};
 
 use crate::anew::plant_anew;
 use crate::bounds::{eulerian_choice_limits, eulerian_residue_limits};
 use crate::closing::canonical_closure;
-use crate::eulerian_unsampling::unsample_of_class;
-use crate::map_class::MapClass;
+use crate::eulerian_unsampling::{objects_of_residue, turned_back};
 use crate::map_profile::profile_of_map;
-use crate::objects::{codes_by_degree, edges_of, halves_of, letters_of};
+use crate::object_order::ranks_by_object;
+use crate::objects::{codes_by_degree, edges_of, halves_of, letters_of, nodes_of};
 use crate::plane_planting::plant_plane;
-use crate::sample::{Sample, SampleRefusal, UnsampleRefusal};
-use pm_lehmer::arrange;
-use pm_lists::{Bounds, NumList, check_list};
+use crate::plane_reading::kinds_of_tree;
+use crate::unplanting::unplant;
+use pm_class::{MapClass, Sample};
+use pm_lehmer::{arrange, code};
+use pm_limits::MAX_EDGES;
+use pm_lists::{Bounds, NumList};
 use pm_map::{ClassRefusal, RootedMap};
 use pm_trees::Profile;
 use pm_words::{good_starts, rotate};
@@ -49,6 +51,10 @@ impl MapClass for Eulerian {
 
     ghost samples = { SamplesEulerian };
 
+    ghost MOST_EDGES = { MAX_EDGES };
+
+    const MOST_EDGES: u32 = MAX_EDGES;
+
     fn admissible(size: &Profile) -> bool {
         !size.pairs().is_empty()
     }
@@ -67,51 +73,39 @@ impl MapClass for Eulerian {
         profile_of_map(alloc, map)
     }
 
-    fn sample(alloc: Global, size: &Profile, choices: &[u64]) -> Result<Sample, SampleRefusal> {
-        let bounds = Eulerian::choice_bounds(alloc, size)?;
-        if let Err(refusal) = check_list(choices, &bounds) {
-            return Err(SampleRefusal::List(refusal));
-        }
-        Ok(sample_of_valid(alloc, size, choices)?)
+    fn sample_valid(alloc: Global, size: &Profile, choices: &[u64]) -> Result<Sample, AllocError> {
+        let halves = halves_of(alloc, size)?;
+        let objects = edges_of(size) as usize + 1;
+        let preorder = preorder_of(alloc, &halves, &choices[..objects])?;
+        let last = objects + halves.len();
+        let tree = plant_plane(alloc, &halves, &choices[objects..last], &preorder.objects)?;
+        let anew = plant_anew(alloc, &tree, choices[last])?;
+        let map = canonical_closure(alloc, &anew.tree)?;
+        let residue = residue_of(alloc, size, &halves, &preorder, anew.old_plant)?;
+        Ok(Sample { map, residue })
     }
 
-    fn unsample(
+    fn unsample_valid(
         alloc: Global,
+        size: &Profile,
         map: &RootedMap,
         residue: &[u64],
-    ) -> Result<NumList, UnsampleRefusal> {
-        let size = match Eulerian::size_of(alloc, map) {
-            Ok(size) => size,
-            Err(ClassRefusal::Memory) => return Err(UnsampleRefusal::Memory),
-            Err(refusal) => return Err(UnsampleRefusal::Class(refusal)),
-        };
-        let bounds = Eulerian::residue_bounds(alloc, &size)?;
-        if let Err(refusal) = check_list(residue, &bounds) {
-            return Err(UnsampleRefusal::List(refusal));
-        }
-        Ok(unsample_of_class(alloc, &size, map, residue)?)
+    ) -> Result<NumList, AllocError> {
+        // Its contract says that the map is a rooted one; so its tree has as many nodes of each degree as it has vertices.
+        let _edges = map.edges();
+        let pairs = size.pairs();
+        let unplanted = unplant(alloc, map, residue[residue.len() - 1] as u32)?;
+        let kinds = kinds_of_tree(alloc, &unplanted.tree)?;
+        let objects = objects_of_residue(alloc, pairs, &kinds, residue)?;
+        let ranks = ranks_by_object(alloc, nodes_of(size) as usize, &kinds, &objects)?;
+        let arrangement = turned_back(alloc, &objects, residue[0] as u32)?;
+        let mut choices = code(alloc, &arrangement)?;
+        choices.extend_from_slice(&ranks)?;
+        choices.push(unplanted.free)?;
+        Ok(NumList::of(choices))
     }
 
-    fn is_sampled_once() {}
-
-    fn is_unsampled_once() {}
-}
-
-/// The map and the residue of valid choices.
-fn sample_of_valid(alloc: Global, profile: &Profile, choices: &[u64]) -> Result<Sample, AllocError>
-    requires profile { IsProfile profile.now }
-    requires valid { IsValidList choices.now (eulerian_choices profile.now) }
-    ensures { IfOk result (λ sample. IsSampled (eulerian_choices profile.now) (eulerian_residues profile.now) (λ m. IsEulerian (structure_of m) profile.now) (SamplesEulerian profile.now choices.now) choices.now sample) }
-{
-    let halves = halves_of(alloc, profile)?;
-    let objects = edges_of(profile) as usize + 1;
-    let preorder = preorder_of(alloc, &halves, &choices[..objects])?;
-    let last = objects + halves.len();
-    let tree = plant_plane(alloc, &halves, &choices[objects..last], &preorder.objects)?;
-    let anew = plant_anew(alloc, &tree, choices[last])?;
-    let map = canonical_closure(alloc, &anew.tree)?;
-    let residue = residue_of(alloc, profile, &halves, &preorder, anew.old_plant)?;
-    Ok(Sample { map, residue })
+    fn is_one_to_one() {}
 }
 
 /// The objects in preorder, and where in their arrangement they start.

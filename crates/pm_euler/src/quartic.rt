@@ -1,27 +1,26 @@
 //! Quartic maps: each vertex has degree 4.
 ghost use Rattle.std.specs.Prelude.{◌≡◌, ◌↔◌, ◌∷◌, IfOk, IsTrue};
+ghost use Rattle.pm_limits.specs.declared.TheConstants.{MAX_EDGES};
 ghost use Rattle.pm_lehmer.specs.Lehmer.{code_of, IsArrangementCode};
-ghost use Rattle.pm_lists.specs.Valid.{IsValidList};
 ghost use Rattle.pm_map.specs.ClassRules.{IsQuarticAnswer};
 ghost use Rattle.pm_map.specs.Classes.{IsQuartic};
 ghost use Rattle.pm_map.specs.Rotation.{structure_of};
 ghost use Rattle.pm_remy.specs.Tree.{labels_of};
 ghost use Rattle.pm_euler.specs.Bounds.{quartic_choices, quartic_residues};
 ghost use Rattle.pm_euler.specs.Quartic.{IsQuarticSize, SamplesQuartic};
-ghost use Rattle.pm_euler.specs.Sampling.{IsSampled};
 
 use crate::anew::plant_anew;
 use crate::bounds::{limits_of_growth, limits_with_code};
 use crate::closing::canonical_closure;
-use crate::map_class::MapClass;
 use crate::planting::plant;
-use crate::quartic_unsampling::unsample_of_class;
-use crate::sample::{Sample, SampleRefusal, UnsampleRefusal};
-use pm_lehmer::code;
+use crate::shape_reading::shape_and_ranks;
+use crate::unplanting::unplant;
+use pm_class::{MapClass, Sample};
+use pm_lehmer::{arrange, code};
 use pm_limits::MAX_EDGES;
-use pm_lists::{Bounds, NumList, check_list};
+use pm_lists::{Bounds, NumList};
 use pm_map::{ClassRefusal, Degrees, RootedMap};
-use pm_remy::{LabelTree, grow, labels};
+use pm_remy::{LabelTree, grow, labels, tree_of_shape, ungrow};
 use std::alloc::{AllocError, Global};
 
 /// The quartic maps with `n` vertices, for `n` from 1 to half of [`MAX_EDGES`]: plane maps in which each vertex has degree
@@ -44,6 +43,10 @@ impl MapClass for Quartic {
     ghost answers = { IsQuarticAnswer };
 
     ghost samples = { SamplesQuartic };
+
+    ghost MOST_EDGES = { MAX_EDGES };
+
+    const MOST_EDGES: u32 = MAX_EDGES;
 
     fn admissible(size: &u32) -> bool {
         0 < *size && *size <= MAX_EDGES / 2
@@ -70,36 +73,34 @@ impl MapClass for Quartic {
         Ok(map.edges() / 2)
     }
 
-    fn sample(alloc: Global, size: &u32, choices: &[u64]) -> Result<Sample, SampleRefusal> {
-        let bounds = Quartic::choice_bounds(alloc, size)?;
-        if let Err(refusal) = check_list(choices, &bounds) {
-            return Err(SampleRefusal::List(refusal));
-        }
-        Ok(sample_of_valid(alloc, *size, choices)?)
+    fn sample_valid(alloc: Global, size: &u32, choices: &[u64]) -> Result<Sample, AllocError> {
+        let forks = *size as usize;
+        let tree = grow(alloc, &choices[..forks])?;
+        let blossoming = plant(alloc, &tree, &choices[forks..2 * forks])?;
+        let anew = plant_anew(alloc, &blossoming, choices[2 * forks])?;
+        let map = canonical_closure(alloc, &anew.tree)?;
+        let residue = residue_of(alloc, anew.old_plant, &tree)?;
+        Ok(Sample { map, residue })
     }
 
-    fn unsample(
+    fn unsample_valid(
         alloc: Global,
+        _size: &u32,
         map: &RootedMap,
         residue: &[u64],
-    ) -> Result<NumList, UnsampleRefusal> {
-        let size = match Quartic::size_of(alloc, map) {
-            Ok(size) => size,
-            Err(ClassRefusal::Memory) => return Err(UnsampleRefusal::Memory),
-            Err(refusal) => return Err(UnsampleRefusal::Class(refusal)),
-        };
-        // The map is plane by its type, so its size is admissible.
-        let _edges = map.edges();
-        let bounds = Quartic::residue_bounds(alloc, &size)?;
-        if let Err(refusal) = check_list(residue, &bounds) {
-            return Err(UnsampleRefusal::List(refusal));
-        }
-        Ok(unsample_of_class(alloc, map, residue)?)
+    ) -> Result<NumList, AllocError> {
+        let mut choices = Vec::with_capacity(alloc, map.edges() as usize + 1)?;
+        let unplanted = unplant(alloc, map, residue[0] as u32)?;
+        let read = shape_and_ranks(alloc, &unplanted.tree)?;
+        let labels = arrange(alloc, &residue[1..])?;
+        let tree = tree_of_shape(alloc, &read.nodes, &labels)?;
+        choices.extend_from_slice(&ungrow(alloc, &tree)?)?;
+        choices.extend_from_slice(&read.ranks)?;
+        choices.push(unplanted.free)?;
+        Ok(NumList::of(choices))
     }
 
-    fn is_sampled_once() {}
-
-    fn is_unsampled_once() {}
+    fn is_one_to_one() {}
 }
 
 /// The bounds of the choices: a growth, a bud pattern for each fork, and one of the two free leaves.
@@ -111,21 +112,6 @@ fn limits_of_choices(alloc: Global, size: u32) -> Result<Vec<u64>, AllocError>
     limits.extend_from_slice(&patterns)?;
     limits.push(2)?;
     Ok(limits)
-}
-
-/// The map and the residue of valid choices.
-fn sample_of_valid(alloc: Global, size: u32, choices: &[u64]) -> Result<Sample, AllocError>
-    requires size { IsQuarticSize size }
-    requires valid { IsValidList choices.now (quartic_choices size) }
-    ensures { IfOk result (λ sample. IsSampled (quartic_choices size) (quartic_residues size) (λ m. IsQuartic (structure_of m) size) (SamplesQuartic size choices.now) choices.now sample) }
-{
-    let forks = size as usize;
-    let tree = grow(alloc, &choices[..forks])?;
-    let blossoming = plant(alloc, &tree, &choices[forks..2 * forks])?;
-    let anew = plant_anew(alloc, &blossoming, choices[2 * forks])?;
-    let map = canonical_closure(alloc, &anew.tree)?;
-    let residue = residue_of(alloc, anew.old_plant, &tree)?;
-    Ok(Sample { map, residue })
 }
 
 /// The number of the old plant, and the arrangement code of the labels from left to right.

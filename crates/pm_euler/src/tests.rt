@@ -1,7 +1,8 @@
 //! Small classes whole, worked lists, long lists, refusals.
 ghost use Rattle.std.specs.Prelude.{◌≡◌, ◌%◌, length};
 
-use crate::{Eulerian, MapClass, Quartic, SampleRefusal, UnsampleRefusal};
+use crate::{Eulerian, Quartic};
+use pm_class::{MapClass, SampleRefusal, UnsampleRefusal};
 use pm_lists::ListRefusal;
 use pm_map::{ClassRefusal, RootedMap};
 use pm_trees::Profile;

@@ -9,5 +9,5 @@ pub returns : goal.returns
 returns g c =
     let words : AreWords c.args.limits.now = record { each = All-from_get_or (λ (value : ℕ). value < 2 ^ 64) c.args.limits.now 0 (λ place l. (c.type_inv.limits place).fits) } in
     records_go_on (g.C.MapClass.choice_limits c.args.size.now) (g.C.MapClass.residue_limits c.args.size.now) (g.C.MapClass.has c.args.size.now)
-    (g.C.MapClass.samples c.args.size.now) (c.is_sampled_once.ensures.each_sampled c.args.size.now c.requires.size)
+    (g.C.MapClass.samples c.args.size.now) (c.each_list_is_sampled.ensures c.args.size.now c.requires.size)
     (subst AreBounds c.requires.limits c.requires.bounds) (subst AreWords c.requires.limits words)

@@ -4,8 +4,8 @@ use Rattle.pm_lists.specs.declared.check.ListRefusal.{ListRefusal}
 use Rattle.pm_lists.specs.Refusal.{IsRefusalOf}
 use Rattle.pm_map.specs.declared.class_refusal.ClassRefusal.{ClassRefusal}
 use Rattle.pm_map.specs.Rotation.{RotationSystem}
-use Rattle.pm_euler.specs.declared.sample.UnsampleRefusal.TheVariants.{List as NotValid}
-use Rattle.pm_euler.specs.Unsampling.{IsUnsampled, IsUnsampling}
+use Rattle.pm_class.specs.declared.sample.UnsampleRefusal.TheVariants.{List as NotValid}
+use Rattle.pm_class.specs.Unsampling.{IsUnsampled, IsUnsampling}
 use Rattle.pm_cli.specs.declared.refusal.Refusal.TheVariants.{Invalid}
 use Rattle.pm_cli.specs.MapReading.{IsStopOfClass}
 use Rattle.pm_cli.specs.Unsampling.{IsWrongResidue, Unsamples, unsampled, no_map, not_in_class, not_valid}

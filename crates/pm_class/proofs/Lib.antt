@@ -1,0 +1,2 @@
+pub mod OneToOneLemmas
+pub mod UndoingLemmas

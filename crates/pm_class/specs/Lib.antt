@@ -1,0 +1,5 @@
+pub mod ClassLaws
+pub mod OneToOne
+pub mod Sampling
+pub mod Undoing
+pub mod Unsampling

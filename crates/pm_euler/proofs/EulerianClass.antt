@@ -1,0 +1,108 @@
+-- The laws of maps with given even degrees as a class.
+use Rattle.std.proofs.Common.{◌≡◌, ℕ, zero, suc, ◌-◌, ◌*◌, ◌<◌, ◌≤◌, List, [], ◌∷◌, ◌++◌, length, length-append, refl, ◌∙◌, arith}
+use Rattle.std.specs.Prelude.{All, flat_map}
+use Rattle.std.specs.List.{sum_by}
+use Rattle.std.proofs.lemmas.List.Elements.{All-append, All-nil, All-cons}
+use Rattle.std.proofs.lemmas.List.Sums.{sum_by-cons}
+use Rattle.pm_limits.specs.declared.TheConstants.{MAX_EDGES}
+use Rattle.pm_map.specs.Rotation.{structure_of}
+use Rattle.pm_map.specs.Classes.{IsEulerian, vertices_of_degree}
+use Rattle.pm_map.proofs.CarriedDegrees.{degrees_carried}
+use Rattle.pm_map.proofs.DegreesTaken.{darts_below, darts_below-more, darts_below-bound}
+use Rattle.pm_trees.specs.Pairs.{IsProfile, IsRightPair, edges_of, pair_at}
+use Rattle.pm_trees.proofs.CountedPairs.{sum_bounded}
+use Rattle.pm_class.specs.ClassLaws.{IsKept, AreLimits, HasMostEdges}
+use Rattle.pm_class.specs.OneToOne.{AreOneToOne}
+use Rattle.pm_class.proofs.OneToOneLemmas.{one_to_one}
+use Rattle.pm_euler.specs.Bounds.{code_bounds, eulerian_choices, eulerian_residues}
+use Rattle.pm_euler.specs.Eulerian.{SamplesEulerian}
+use Rattle.pm_euler.specs.Objects.{nodes_of_profile}
+use Rattle.pm_euler.proofs.BoundLemmas.{code_bounds_low, length-code_bounds}
+use Rattle.pm_euler.proofs.EulerianBounds.{eulerian_choices_are, eulerian_residues_are, length-eulerian_choices}
+use Rattle.pm_euler.proofs.EulerianLists.{one_eulerian_list}
+use Rattle.pm_euler.proofs.EulerianMaps.{counted_of_degrees}
+use Rattle.pm_euler.proofs.EulerianPairs.{each_eulerian_pair}
+use Rattle.pm_euler.proofs.EulerianSamples.{each_eulerian_list_is_sampled, one_eulerian_sample}
+use Rattle.pm_euler.proofs.ObjectLemmas.{halves_few, nodes_by_pairs}
+
+pub eulerian_one_to_one : (pairs : List (ℕ × ℕ)) → IsProfile pairs → AreOneToOne (eulerian_choices pairs) (eulerian_residues pairs) (λ m. IsEulerian (structure_of m) pairs) (SamplesEulerian pairs)
+eulerian_one_to_one pairs is =
+    one_to_one (eulerian_choices pairs) (eulerian_residues pairs) (λ m. IsEulerian (structure_of m) pairs) (SamplesEulerian pairs) (λ choices map residue given. given.valid)
+    (each_eulerian_list_is_sampled pairs is) (each_eulerian_pair pairs is) (one_eulerian_sample pairs is) (one_eulerian_list pairs is)
+
+pub eulerian_kept : (pairs : List (ℕ × ℕ)) → IsKept (λ m. IsEulerian (structure_of m) pairs)
+eulerian_kept pairs map other rooted after same is =
+    let degrees : (degree : ℕ) → vertices_of_degree (structure_of other) degree ≡ vertices_of_degree (structure_of map) degree = degrees_carried (structure_of map) (structure_of other) rooted.structure after.structure same in
+    record {
+      plane = record { connected = after.connected; euler = after.euler };
+      degrees = record {
+        rising = is.degrees.rising;
+        some = is.degrees.some;
+        even = is.degrees.even;
+        counts = λ k less. degrees (pair_at pairs k).0 ∙ is.degrees.counts k less;
+        others = λ degree none. degrees degree ∙ is.degrees.others degree none;
+      };
+    }
+
+-- the bounds of the codes by degree are as many as the nodes, and as low
+codes_low : (most : ℕ) (pairs : List (ℕ × ℕ)) → sum_by (λ (p : ℕ × ℕ). p.1) pairs ≤ most → All (λ bound. bound ≤ most) (flat_map (λ (p : ℕ × ℕ). code_bounds p.1) pairs)
+codes_low most [] few = All-nil (λ (bound : ℕ). bound ≤ most)
+codes_low most (p ∷ pairs) few =
+    All-append (λ (bound : ℕ). bound ≤ most) (code_bounds p.1) (flat_map (λ (p : ℕ × ℕ). code_bounds p.1) pairs) (code_bounds_low most p.1 (omega (arith, few, sum_by-cons (λ (p : ℕ × ℕ). p.1) p pairs)))
+    (codes_low most pairs (omega (arith, few, sum_by-cons (λ (p : ℕ × ℕ). p.1) p pairs)))
+
+codes_long : (pairs : List (ℕ × ℕ)) → length (flat_map (λ (p : ℕ × ℕ). code_bounds p.1) pairs) ≡ sum_by (λ (p : ℕ × ℕ). p.1) pairs
+codes_long [] = refl
+codes_long (p ∷ pairs) =
+    omega (arith, length-append (code_bounds p.1) (flat_map (λ (p : ℕ × ℕ). code_bounds p.1) pairs), length-code_bounds p.1, codes_long pairs, sum_by-cons (λ (p : ℕ × ℕ). p.1) p pairs)
+
+pub eulerian_limits : (pairs : List (ℕ × ℕ)) → IsProfile pairs → AreLimits (eulerian_choices pairs) (eulerian_residues pairs)
+eulerian_limits pairs is =
+    let few = is.few in
+    let nodes = halves_few pairs is in
+    let counted = nodes_by_pairs pairs in
+    let choices = length-eulerian_choices pairs in
+    let leaves : ℕ = suc (edges_of pairs) - nodes_of_profile pairs in
+    let codes : List ℕ = flat_map (λ (p : ℕ × ℕ). code_bounds p.1) pairs in
+    record {
+      choice_bounds = eulerian_choices_are pairs is;
+      few_choices = omega (arith, few, nodes, choices);
+      residue_bounds = eulerian_residues_are pairs is;
+      few_residues =
+          let all = length-append (codes ++ code_bounds leaves) (suc leaves ∷ []) in
+          let both = length-append codes (code_bounds leaves) in
+          omega (arith, few, nodes, counted, all, both, codes_long pairs, length-code_bounds leaves);
+      low_residues =
+          All-cons (λ (bound : ℕ). bound ≤ 2 * MAX_EDGES) (suc (edges_of pairs)) (codes ++ code_bounds leaves ++ suc leaves ∷ []) (omega (arith, few))
+          (All-append (λ (bound : ℕ). bound ≤ 2 * MAX_EDGES) (codes ++ code_bounds leaves) (suc leaves ∷ [])
+          (All-append (λ (bound : ℕ). bound ≤ 2 * MAX_EDGES) codes (code_bounds leaves) (codes_low (2 * MAX_EDGES) pairs (omega (arith, few, nodes, counted))) (code_bounds_low (2 * MAX_EDGES) leaves (omega (arith, few))))
+          (All-cons (λ (bound : ℕ). bound ≤ 2 * MAX_EDGES) (suc leaves) [] (omega (arith, few)) (All-nil (λ (bound : ℕ). bound ≤ 2 * MAX_EDGES))));
+    }
+
+-- a profile with as many edges as a map may have
+greatest_pairs : List (ℕ × ℕ)
+greatest_pairs = (2, MAX_EDGES) ∷ []
+
+greatest_is_profile : IsProfile greatest_pairs
+unfolding greatest_pairs
+greatest_is_profile = record {
+  are_pairs = record { some = omega arith; right = each };
+  few = omega arith;
+} where
+  each : (k : ℕ) → k < 1 → IsRightPair ((2, MAX_EDGES) ∷ []) k
+  each zero less = record { even = refl; some = omega arith; few = omega arith; rising = omega arith; counted = omega arith }
+  each (suc k) less = absurd (omega arith)
+
+pub eulerian_most_edges : HasMostEdges IsProfile (λ pairs m. IsEulerian (structure_of m) pairs) MAX_EDGES
+unfolding greatest_pairs
+eulerian_most_edges = record {
+  within = λ pairs map is rooted has. rooted.few;
+  greatest = greatest_pairs;
+  is_greatest = greatest_is_profile;
+  reached = λ map rooted has.
+      let counted = counted_of_degrees (structure_of map) greatest_pairs greatest_is_profile has.degrees in
+      let sum = sum_bounded (vertices_of_degree (structure_of map)) (darts_below (structure_of map)) (λ d. darts_below-more (structure_of map) d rooted.structure) greatest_pairs (length map.sigma) counted
+      (λ d. darts_below-bound (structure_of map) d) in
+      let most = rooted.few in
+      omega (arith, sum, most);
+}
