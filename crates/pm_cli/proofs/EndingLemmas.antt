@@ -137,6 +137,13 @@ told_no_write Read told is no_write e = cc
 told_no_write Write told is no_write e = no_write (ap status_of_stop is)
 told_no_write Memory told is no_write e = cc
 
+-- nor is one that isn't told as a failed read
+pub told_no_read : (stop told : Stop) → IsToldFor stop told → status_of_stop told ≢ 5 → stop ≢ Read
+told_no_read (Refused refusal) told is no_read e = cc
+told_no_read Read told is no_read e = no_read (ap status_of_stop is)
+told_no_read Write told is no_read e = cc
+told_no_read Memory told is no_read e = cc
+
 -- records that were drawn and written, or not all, by a command whose answer they are
 pub ends_drawing : (words : List (List ℕ)) (command : Command) (bounds : List ℕ) (samples : List ℕ → RotationSystem → List ℕ → Type 0) (seed count : ℕ)
     (left old new : Option (List ℕ)) (f g : ℕ) (end : Result (Unit {0}) Stop) → Spells words command → reads command ≡ false
@@ -155,7 +162,7 @@ ends_drawing words command bounds samples seed count left old new f g (Err Write
   written = drew.0.written;
 }
 ends_drawing words command bounds samples seed count left old new f g (Err Memory) spells unread all first drew bytes input =
-    elim drew [
+    elim drew.0 [
       | inl same ↦ inl same
       | inr begun ↦ inr (record {
         text = begun.begun ++ begun.rest;

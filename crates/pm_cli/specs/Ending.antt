@@ -1,5 +1,5 @@
 -- How a run ends, and what stands in its streams then.
-use Rattle.std.specs.Prelude.{◌≡◌, ℕ, ◌<◌, ◌≤◌, ◌⊎◌, true, false, List, [], ◌++◌, length, take, Option, Some, Result, Ok, Err, Vec, ⊤}
+use Rattle.std.specs.Prelude.{◌≡◌, ℕ, ◌<◌, ◌≤◌, ◌⊎◌, true, false, List, [], ◌++◌, length, take, Option, Some, Result, Ok, Err, Vec}
 use Rattle.std.specs.declared.alloc.Global.{Global}
 use Rattle.pm_io.specs.declared.TheConstants.{MAX_BYTES}
 use Rattle.pm_io.specs.Bytes.{added}
@@ -88,7 +88,7 @@ pub record IsOverLimit (old : Option (List ℕ)) (faults_old faults_new : ℕ) :
 abbrev pub IsReading : Option (List ℕ) → Option (List ℕ) → ℕ → ℕ → Result (Vec ℕ Global) Stop → Type 0
 IsReading old new faults_old faults_new (Ok bytes) = HasRead old new faults_old faults_new bytes.items
 IsReading old new faults_old faults_new (Err Read) = FaultsRose faults_old faults_new
-IsReading old new faults_old faults_new (Err Memory) = ⊤
+IsReading old new faults_old faults_new (Err Memory) = faults_new ≡ faults_old
 IsReading old new faults_old faults_new (Err (Refused (Limited Bytes))) = IsOverLimit old faults_old faults_new
 IsReading old new faults_old faults_new (Err stop) = ⊥
 
@@ -124,7 +124,7 @@ pub record HasAddedFirst (first all : List ℕ → Type 0) (old new : Option (Li
 abbrev pub IsWritingRecords : (List ℕ → Type 0) → (List ℕ → Type 0) → Option (List ℕ) → Option (List ℕ) → ℕ → ℕ → Result (Unit {0}) Stop → Type 0
 IsWritingRecords all first old new faults_old faults_new (Ok done) = HasAdded all old new × (faults_new ≡ faults_old)
 IsWritingRecords all first old new faults_old faults_new (Err Write) = HasAddedFront all old new × FaultsRose faults_old faults_new
-IsWritingRecords all first old new faults_old faults_new (Err Memory) = (new ≡ old) ⊎ HasAddedFirst first all old new
+IsWritingRecords all first old new faults_old faults_new (Err Memory) = ((new ≡ old) ⊎ HasAddedFirst first all old new) × (faults_new ≡ faults_old)
 IsWritingRecords all first old new faults_old faults_new (Err stop) = ⊥
 
 -- where the input told its bytes, none are left

@@ -56,9 +56,10 @@ fn perform<S: Source, O: Sink>(
     ensures untouched { IfErr result (λ stop. status_of_stop stop ≡ 2 → input.new ≡ input.old) }
     ensures read { IsErrOf result Stop.Read → FaultsRose (S.faults input.old) (S.faults input.new) }
     ensures calm_read { MatchResult result (λ _. S.faults input.new ≡ S.faults input.old)
-        (λ stop. stop ≢ Stop.Read → stop ≢ Stop.Memory → S.faults input.new ≡ S.faults input.old) }
+        (λ stop. stop ≢ Stop.Read → S.faults input.new ≡ S.faults input.old) }
     ensures write { IsErrOf result Stop.Write → FaultsRose (O.faults out.old) (O.faults out.new) }
-    ensures calm_write { OnOk result (O.faults out.new ≡ O.faults out.old) }
+    ensures calm_write { MatchResult result (λ _. O.faults out.new ≡ O.faults out.old)
+        (λ stop. stop ≢ Stop.Write → O.faults out.new ≡ O.faults out.old) }
 {
     let command = match Command::of_words(alloc, words) {
         Ok(Ok(command)) => command,
@@ -159,10 +160,11 @@ pub fn run<S: Source, O: Sink, E: Sink>(
     ensures untouched { result ≡ 2 → input.new ≡ input.old }
     ensures unread { ReadNothing (map string_bytes words.now) → input.new ≡ input.old }
 
+    // A failure of the input is told by 5 and by no other status, one of the output by 8 and by no other.
     ensures read { result ≡ 5 → FaultsRose (S.faults input.old) (S.faults input.new) }
-    ensures calm_input { result ≢ 5 → result ≢ 9 → S.faults input.new ≡ S.faults input.old }
+    ensures calm_input { result ≢ 5 → S.faults input.new ≡ S.faults input.old }
     ensures write { result ≡ 8 → FaultsRose (O.faults out.old) (O.faults out.new) }
-    ensures calm_output { result ≡ 0 → O.faults out.new ≡ O.faults out.old }
+    ensures calm_output { result ≢ 8 → O.faults out.new ≡ O.faults out.old }
 {
     match perform(alloc, words, input, out) {
         Ok(()) => 0,

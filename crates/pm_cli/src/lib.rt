@@ -26,14 +26,6 @@ pub use refusal::{Limit, MapRule, Refusal, Stop, TreeRule};
 pub use words::{Command, MAX_RECORDS};
 
 #[cfg(test)]
-mod draw_tests;
-#[cfg(test)]
-mod eulerian_tests;
-#[cfg(test)]
 mod limit_tests;
 #[cfg(test)]
-mod open_tests;
-#[cfg(test)]
 mod tests;
-#[cfg(test)]
-mod unsample_tests;

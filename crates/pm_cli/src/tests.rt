@@ -1,5 +1,7 @@
-//! Runs over streams in memory.
-use crate::{run, words_and_bytes_have_one_answer};
+//! Runs over streams in memory. The bytes were worked out apart from the code.
+use crate::{
+    opening_undoes_closing, run, sampling_undoes_unsampling, words_and_bytes_have_one_answer,
+};
 use pm_io::{MemSink, MemSource};
 use std::alloc::{AllocError, Global};
 use std::process::Abort;
@@ -13,9 +15,11 @@ pub(crate) struct Run {
     pub err: MemSink,
 }
 
-// The calls that fail, what a failing write of the output keeps, and how many bytes the output takes.
+// How many bytes a read gives, the calls that fail, what a failing write of the output keeps, and how many bytes the
+// output takes.
 #[derive(Clone, Copy)]
 pub(crate) struct Faults {
+    pub piece: u32,
     pub read: u32,
     pub out: u32,
     pub part: u32,
@@ -24,11 +28,12 @@ pub(crate) struct Faults {
 }
 
 pub(crate) const NONE: Faults = Faults {
+    piece: 4,
     read: 0,
     out: 0,
     part: 0,
     err: 0,
-    room: 1000,
+    room: 1_000_000,
 };
 
 pub(crate) fn run_on(
@@ -39,537 +44,400 @@ pub(crate) fn run_on(
     faults: Faults,
 ) -> Result<Run, AllocError> {
     let mut words = Vec::new(alloc);
-    for word in line.split_whitespace() {
-        words.push(String::from_str(alloc, word)?)?;
+    for word in line.split(' ') {
+        // No words at all are written as an empty line.
+        if !line.is_empty() {
+            words.push(String::from_str(alloc, word)?)?;
+        }
     }
-    run_words(rt, alloc, &words, bytes, faults)
-}
-
-pub(crate) fn run_words(
-    rt: &impl Abort,
-    alloc: Global,
-    words: &[String],
-    bytes: &[u8],
-    faults: Faults,
-) -> Result<Run, AllocError> {
-    assert!(rt; words.len() < 100);
+    assert!(rt; words.len() < 100 && faults.piece > 0);
     let mut input = MemSource::new(
         Vec::from_slice(alloc, bytes)?,
-        4,
+        faults.piece,
         vec![in alloc; faults.read]?,
     );
     let mut out = MemSink::new(alloc, faults.room, faults.part, vec![in alloc; faults.out]?)?;
     let mut err = MemSink::new(alloc, 1000, 0, vec![in alloc; faults.err]?)?;
-    let status = run(alloc, words, &mut input, &mut out, &mut err);
+    let status = run(alloc, &words, &mut input, &mut out, &mut err);
     Ok(Run { status, out, err })
 }
 
-#[test]
-fn answers(rt: HostRuntime) -> Result<(), Fail> {
-    words_and_bytes_have_one_answer();
-    for (bytes, want) in [
-        (
-            b"tree lbl\n".as_slice(),
-            b"map 2 0\nv 0 1 2 3\nend\n".as_slice(),
-        ),
-        (
-            b"tree bll\n".as_slice(),
-            b"map 2 0\nv 0 2 3 1\nend\n".as_slice(),
-        ),
-        (
-            b"tree b(bll)l\n".as_slice(),
-            b"map 4 0\nv 0 2 4 1\nv 3 5 6 7\nend\n".as_slice(),
-        ),
-    ] {
-        let run = run_on(&rt, rt.alloc(), "close eulerian", bytes, NONE)?;
-        assert_eq!(rt; run.status, 0);
-        assert_eq!(rt; run.out.bytes(), want);
-        assert_eq!(rt; run.err.bytes(), b"".as_slice());
+// Rows: the words, the input, the status, and the answer or what the line of standard error tells. `/` is a newline.
+const WORDS: &str = "\
+||2|usage 0
+closes||2|usage 0
+";
+
+const CLOSE: &str = "\
+close||2|usage 1
+close tri||2|usage 1
+close eulerian|tree lbl/|0|map 2 0/v 0 1 2 3/end/
+close eulerian|tree bll/|0|map 2 0/v 0 2 3 1/end/
+close eulerian|tree b(bll)l/|0|map 4 0/v 0 2 4 1/v 3 5 6 7/end/
+close eulerian x|tree lbl/|2|usage 2
+close eulerian||3|text 1
+close eulerian|tree lbl|3|text 1
+close eulerian|tree l(/|3|text 1
+close eulerian|tree lll/tree lbl/|3|text 2
+close eulerian|tree llb/|12|tree matched 3
+close eulerian|tree ll/|12|tree degree 0
+close eulerian|tree b(ll)l/|12|tree degree 2
+close eulerian|tree lll/|12|tree buds 0
+";
+
+const OPEN: &str = "\
+open||2|usage 1
+open quartic||2|usage 1
+open eulerian 2:1||2|usage 2
+open eulerian|tree lbl/|3|text 1
+open eulerian|map 2 0/v 0 1 2 2/end/|6|map permutation 3
+open eulerian|map 4 0/v 0 1 2 3/v 4 6 5 7/end/|6|map connected 4
+open eulerian|map 2 0/v 0 2 1 3/end/|6|map euler 0
+open eulerian|map 0 0/end/|6|map empty
+open eulerian|map 1 0/v 0/v 1/end/|6|map vertex 0
+open eulerian|map 2 0/v 0 2/v 1/v 3/end/|6|map vertex 1
+open eulerian|map 1 0/v 0 1/end/|0|tree l/
+open eulerian|map 2 0/v 0 1 2 3/end/|0|tree lbl/
+open eulerian|map 4 0/v 0 2 4 1/v 3 5 6 7/end/|0|tree b(bll)l/
+open eulerian|map 4 0/v 0 2 4 1/v 3 5 6 7/end/residue 9 9/|0|tree b(bll)l/
+open eulerian|map 4 7/v 7 0 2 6/v 1 3 5 4/end/|0|tree b(bll)l/
+";
+
+const CANON: &str = "\
+canon|map 4 7/v 7 0 2 6/v 1 3 5 4/end/residue 0 0 1 0/|0|map 4 0/v 0 2 4 1/v 3 5 6 7/end/
+canon|map 0 0/end/|0|map 0 0/end/
+canon|map 2 0/v 0 1 2 3/end/|0|map 2 0/v 0 1 2 3/end/
+canon x||2|usage 1
+canon|map 2 0/v 0 2 1 3/end/|6|map euler 0
+";
+
+const CHECK: &str = "\
+check general|map 2 0/v 0 1 2 3/end/|0|ok 1 2 3/
+check general|map 4 7/v 7 0 2 6/v 1 3 5 4/end/residue 0 0 1 0/|0|ok 2 4 4/
+check general|map 0 0/end/|0|ok 1 0 1/
+check general|map 1 1/v 0/v 1/end/residue/|0|ok 2 1 1/
+check||2|usage 1
+check quadratic||2|usage 1
+check general 2||2|usage 2
+check general||3|text 1
+check general|map 2 0/v 0 1 2 3/|3|text 3
+check general|map 02 0/|3|text 1
+check general|map 2 0/v 0 1 2 4/end/|3|text 2
+check general|map 2 0/v 0 1 2/end/|3|text 3
+check general|map 2 0/v 0 1 2 3/v 0/end/|3|text 3
+check general|map 0 1/end/|3|text 1
+check general|map 0 0/v 0/end/|3|text 2
+check general|map 1 2/v 0/v 1/end/|3|text 1
+check general|map 18446744073709551616 0/end/|3|text 1
+check general|map 9223372036854775808 0/v 4294967296/end/|3|text 3
+check general|map 2 0/v 0 1 2 2/end/x/|3|text 4
+check general|map 2 0/v/end/|3|text 2
+check general|map 2 0/v 0 1 2 3 /end/|3|text 2
+check general|map 2 0/v 0 1 2 3/end/residue 1/residue 1/|3|text 5
+";
+
+const CHECK_MORE: &str = "\
+check general|map 2 0/v 0 1 2 2/end/|6|map permutation 3
+check general|map 2 0/v 0 2 1 3/end/|6|map euler 0
+check general|map 4 0/v 0 1 2 3/v 4 6 5 7/end/|6|map connected 4
+check quartic|map 4 0/v 0 2 4 1/v 3 5 6 7/end/residue 0 0 1 0/|0|ok 2 4 4/
+check quartic|map 2 0/v 0 1 2 3/end/|0|ok 1 2 3/
+check quartic 1||2|usage 2
+check quartic|map 2 0/v 0 2 1 3/end/|6|map euler 0
+check quartic|map 4 0/v 0 1 2 3/v 4 6 5 7/end/|6|map connected 4
+check quartic|map 1 0/v 0/v 1/end/|6|map vertex 0
+check quartic|map 0 0/end/|6|map empty
+check eulerian|map 3 0/v 0 2/v 1 3 4 5/end/residue 1 0 0 0 0 2/|0|ok 2 3 3/
+check eulerian|map 7 0/v 0 2/v 1 3 4 6/v 5 8/v 7 10 12 13 11 9/end/residue 1 0 0 0 0 3 2 0 0 2/|0|ok 4 7 5/
+check eulerian|map 4 7/v 7 0 2 6/v 1 3 5 4/end/|0|ok 2 4 4/
+check eulerian|map 2 1/v 0 2/v 1 3/end/|0|ok 2 2 2/
+check eulerian 2:1||2|usage 2
+check eulerian||3|text 1
+check eulerian|map 0 0/end/|6|map empty
+check eulerian|map 2 0/v 0 2 1 3/end/|6|map euler 0
+check eulerian|map 2 0/v 0 1 2 2/end/|6|map permutation 3
+check eulerian|map 2 0/v 0 1/v 2 3/end/|6|map connected 2
+check eulerian|map 2 0/v 0 1 2/v 3/end/|6|map vertex 0
+check eulerian|map 2 0/v 1/v 0 2/v 3/end/|6|map vertex 1
+check eulerian|map 33 0/v 0 1 2 3 4 5 6 7 8 9 10 11 12 13 14 15 16 17 18 19 20 21 22 23 24 25 26 27 28 29 30 31 32 33 34 35 36 37 38 39 40 41 42 43 44 45 46 47 48 49 50 51 52 53 54 55 56 57 58 59 60 61 62 63 64 65/end/|6|map vertex 0
+";
+
+const SAMPLE: &str = "\
+sample quartic 1|choices 0 2 0/|0|map 2 0/v 0 1 2 3/end/residue 2 0 0/
+sample quartic 1|choices 1 0 1/|0|map 2 0/v 0 1 2 3/end/residue 1 1 0/
+sample quartic 2|choices 0 0 0 0 0/|0|map 4 0/v 0 2 4 1/v 3 5 6 7/end/residue 0 0 1 0/
+sample||2|usage 1
+sample quartic||2|usage 2
+sample quartic 0||2|usage 2
+sample quartic 2097153||2|usage 2
+sample quartic 01||2|usage 2
+sample quartic 1 x||2|usage 3
+sample general 1||2|usage 1
+sample quartic 2097152||3|text 1
+sample quartic 1|choices 2 0 0/|4|list entry 0 2 2
+sample quartic 1|choices 0 2/|4|list length 3 2
+sample quartic 1|choices/|4|list length 3 0
+sample quartic 1|choices 0 0 0 /|3|text 1
+sample quartic 1|choices 0 0 0/x/|3|text 2
+sample quartic 1|choices 0 0 0|3|text 1
+sample quartic 1|choice 0 0 0/|3|text 1
+sample eulerian 4:1|choices 0 0 0 2 0/|0|map 2 0/v 0 1 2 3/end/residue 0 0 0 0 2/
+sample eulerian 2:1|choices 0 0 0 0/|0|map 1 0/v 0 1/end/residue 0 0 0 0/
+sample eulerian 2:1|choices 0 0 0 1/|0|map 1 0/v 0 1/end/residue 0 0 0 1/
+sample eulerian 2:1|choices 1 0 0 0/|0|map 1 0/v 0 1/end/residue 1 0 0 0/
+sample eulerian 2:1|choices 1 0 0 1/|0|map 1 0/v 0 1/end/residue 1 0 0 1/
+sample eulerian 2:1,4:1|choices 3 1 0 0 0 1 1/|0|map 3 0/v 0 2/v 1 3 4 5/end/residue 1 0 0 0 0 2/
+sample eulerian 2:2,4:1,6:1|choices 5 3 0 4 1 2 0 0 0 0 2 7 1/|0|map 7 0/v 0 2/v 1 3 4 6/v 5 8/v 7 10 12 13 11 9/end/residue 1 0 0 0 0 3 2 0 0 2/
+sample eulerian||2|usage 2
+sample eulerian 2:1 x||2|usage 3
+sample eulerian 2:1|choices 0 0 0 2/|4|list entry 3 2 2
+sample eulerian 2:1|choices 0 0 0/|4|list length 4 3
+";
+
+const SAMPLE_MORE: &str = "\
+sample eulerian 2:1|choices 0 0 0 0/x/|3|text 2
+sample eulerian 2:1|choices 0 0 0 0|3|text 1
+sample eulerian 4:1|choices 0 0 0 3 0/|4|list entry 3 3 3
+sample eulerian 2:2,4:2097151||3|text 1
+sample eulerian 64:1|choices 0 0 0 0 0 0 0 0 0 0 0 0 0 0 0 0 0 0 0 0 0 0 0 0 0 0 0 0 0 0 0 0 0 916312070471295267 0/|4|list entry 33 916312070471295267 916312070471295267
+sample eulerian 4:1,2:1|choices 0 0 0 0/|2|usage 2
+sample eulerian 2:1,2:1|choices 0 0 0 0/|2|usage 2
+sample eulerian 2:0|choices 0 0 0 0/|2|usage 2
+sample eulerian 2:1,4:0|choices 0 0 0 0/|2|usage 2
+sample eulerian 2:4194305|choices 0 0 0 0/|2|usage 2
+sample eulerian 2:1,4:2097152|choices 0 0 0 0/|2|usage 2
+sample eulerian 2:1,,4:1|choices 0 0 0 0/|2|usage 2
+sample eulerian 2:1,|choices 0 0 0 0/|2|usage 2
+sample eulerian ,2:1|choices 0 0 0 0/|2|usage 2
+sample eulerian 2:1:1|choices 0 0 0 0/|2|usage 2
+sample eulerian 02:1|choices 0 0 0 0/|2|usage 2
+sample eulerian 2:01|choices 0 0 0 0/|2|usage 2
+sample eulerian :|choices 0 0 0 0/|2|usage 2
+sample eulerian ,|choices 0 0 0 0/|2|usage 2
+sample eulerian 2|choices 0 0 0 0/|2|usage 2
+sample eulerian 2:|choices 0 0 0 0/|2|usage 2
+sample eulerian :1|choices 0 0 0 0/|2|usage 2
+sample eulerian 3:1|choices 0 0 0 0/|2|usage 2
+sample eulerian 0:1|choices 0 0 0 0/|2|usage 2
+sample eulerian 66:1|choices 0 0 0 0/|2|usage 2
+sample eulerian +2:1|choices 0 0 0 0/|2|usage 2
+sample eulerian 2:1x|choices 0 0 0 0/|2|usage 2
+sample eulerian 4294967298:1|choices 0 0 0 0/|2|usage 2
+sample eulerian 2:4294967297|choices 0 0 0 0/|2|usage 2
+sample eulerian 2:18446744073709551617|choices 0 0 0 0/|2|usage 2
+";
+
+const UNSAMPLE: &str = "\
+unsample||2|usage 1
+unsample general||2|usage 1
+unsample quartic 2||2|usage 2
+unsample quartic|map 2 0/v 0 1 2 3/end/|3|text 4
+unsample quartic|map 2 0/v 0 1 2 3/end/residue  0/|3|text 4
+unsample quartic|map 2 0/v 0 1 2 3/end/residue 2 0 0/residue 2 0 0/|3|text 5
+unsample quartic|map 2 0/v 0 1 2 3/end/residue 3 0 0/|4|list entry 0 3 3
+unsample quartic|map 2 0/v 0 1 2 3/end/residue 2 0/|4|list length 3 2
+unsample quartic|map 2 0/v 0 2 1 3/end/residue 3 0 0/|6|map euler 0
+unsample quartic|map 1 0/v 0/v 1/end/residue 0/|6|map vertex 0
+unsample quartic|map 0 0/end/residue 0/|6|map empty
+unsample eulerian|map 1 0/v 0/v 1/end/residue 0/|6|map vertex 0
+unsample eulerian|map 0 0/end/residue 0/|6|map empty
+unsample quartic|map 4194305 0/end/residue 0/|3|text 2
+unsample quartic|map 4 0/v 0 2 4 1/v 3 5 6 7/end/residue 0 0 1 0/|0|choices 0 0 0 0 0/
+unsample quartic|map 4 7/v 7 0 2 6/v 1 3 5 4/end/residue 0 0 1 0/|0|choices 0 0 0 0 0/
+unsample eulerian|map 2 0/v 0 1 2 3/end/residue 0 0 0 0 2/|0|choices 0 0 0 2 0/
+unsample eulerian|map 3 0/v 0 2/v 1 3 4 5/end/residue 1 0 0 0 0 2/|0|choices 3 1 0 0 0 1 1/
+";
+
+const DRAW: &str = "\
+draw||2|usage 1
+draw tri 1 7 1||2|usage 1
+draw quartic||2|usage 2
+draw quartic 0 7 1||2|usage 2
+draw quartic 2097153 7 1||2|usage 2
+draw quartic 1||2|usage 3
+draw quartic 1 x 1||2|usage 3
+draw quartic 1 18446744073709551616 1||2|usage 3
+draw quartic 1 7||2|usage 4
+draw quartic 1 7 0||2|usage 4
+draw quartic 1 7 1001||2|usage 4
+draw quartic 1 7 01||2|usage 4
+draw quartic 1 7 1 1||2|usage 5
+draw eulerian||2|usage 2
+draw eulerian 3:1 7 1||2|usage 2
+draw eulerian 2:1||2|usage 3
+draw eulerian 2:1 7 0||2|usage 4
+draw eulerian 2:1 7 1 1||2|usage 5
+draw quartic 1 7 2||0|choices 0 2 0/map 2 0/v 0 1 2 3/end/residue 2 0 0/choices 1 2 1/map 2 0/v 0 2 3 1/end/residue 1 1 0/
+draw quartic 1 7 1||0|choices 0 2 0/map 2 0/v 0 1 2 3/end/residue 2 0 0/
+draw quartic 2 0 1||0|choices 1 5 0 1 0/map 4 0/v 0 2 4 1/v 3 6 7 5/end/residue 0 2 1 0/
+draw quartic 3 18446744073709551615 2||0|choices 1 5 8 2 1 1 1/map 6 0/v 0 2 3 4/v 1 6 7 8/v 5 9 10 11/end/residue 1 2 2 1 0/choices 1 3 7 1 2 0 0/map 6 0/v 0 2 4 6/v 1 8 10 11/v 3 9 7 5/end/residue 4 3 2 1 0/
+draw eulerian 2:1,4:1 7 2||0|choices 0 2 0 0 0 2 1/map 3 0/v 0 2/v 1 3 4 5/end/residue 2 0 0 0 0 1/choices 2 1 0 0 0 1 1/map 3 0/v 0 2/v 1 3 4 5/end/residue 1 0 0 1 0 2/
+";
+
+// The bytes that a part of a row writes.
+fn bytes_of(alloc: Global, text: &str) -> Result<Vec<u8>, AllocError> {
+    let mut bytes = Vec::new(alloc);
+    for byte in text.as_bytes() {
+        bytes.push(if *byte == b'/' { b'\n' } else { *byte })?;
     }
-    Ok(())
+    Ok(bytes)
 }
 
-#[test]
-fn refusals(rt: HostRuntime) -> Result<(), Fail> {
-    for (line, bytes, status, want) in [
-        ("", b"".as_slice(), 2, b"planarmap: usage 0\n".as_slice()),
-        (
-            "closes",
-            b"".as_slice(),
-            2,
-            b"planarmap: usage 0\n".as_slice(),
-        ),
-        (
-            "close",
-            b"".as_slice(),
-            2,
-            b"planarmap: usage 1\n".as_slice(),
-        ),
-        (
-            "close tri",
-            b"".as_slice(),
-            2,
-            b"planarmap: usage 1\n".as_slice(),
-        ),
-        (
-            "close eulerian x",
-            b"tree lbl\n".as_slice(),
-            2,
-            b"planarmap: usage 2\n".as_slice(),
-        ),
-        (
-            "close eulerian",
-            b"".as_slice(),
-            3,
-            b"planarmap: text 1\n".as_slice(),
-        ),
-        (
-            "close eulerian",
-            b"tree lbl".as_slice(),
-            3,
-            b"planarmap: text 1\n".as_slice(),
-        ),
-        (
-            "close eulerian",
-            b"tree l(\n".as_slice(),
-            3,
-            b"planarmap: text 1\n".as_slice(),
-        ),
-        (
-            "close eulerian",
-            b"tree lll\ntree lbl\n".as_slice(),
-            3,
-            b"planarmap: text 2\n".as_slice(),
-        ),
-        (
-            "close eulerian",
-            b"tree llb\n".as_slice(),
-            12,
-            b"planarmap: tree matched 3\n".as_slice(),
-        ),
-        (
-            "close eulerian",
-            b"tree ll\n".as_slice(),
-            12,
-            b"planarmap: tree degree 0\n".as_slice(),
-        ),
-        (
-            "close eulerian",
-            b"tree b(ll)l\n".as_slice(),
-            12,
-            b"planarmap: tree degree 2\n".as_slice(),
-        ),
-        (
-            "close eulerian",
-            b"tree lll\n".as_slice(),
-            12,
-            b"planarmap: tree buds 0\n".as_slice(),
-        ),
-    ] {
-        let run = run_on(&rt, rt.alloc(), line, bytes, NONE)?;
-        assert_eq!(rt; run.status, status, "at {line}");
-        assert_eq!(rt; run.err.bytes(), want);
+// Runs what a row says, and compares.
+fn check_row(rt: &impl Abort, alloc: Global, row: &str) -> Result<(), Fail> {
+    let (line, rest) = row.split_once('|').expect(rt, "words");
+    let (input, rest) = rest.split_once('|').expect(rt, "an input");
+    let (status, text) = rest.split_once('|').expect(rt, "a status");
+    let run = run_on(rt, alloc, line, &bytes_of(alloc, input)?, NONE)?;
+    assert_eq!(rt; run.status, status.parse::<u8>()?, "at {line}");
+    if run.status == 0 {
+        assert_eq!(rt;
+            run.out.bytes(),
+            bytes_of(alloc, text)?.as_slice(),
+            "at {line}"
+        );
+        assert_eq!(rt; run.err.bytes(), b"".as_slice());
+    } else {
+        let told = format!(in alloc; "planarmap: {text}\n")?;
+        assert_eq!(rt; run.err.bytes(), told.as_bytes(), "at {line}");
         assert_eq!(rt; run.out.bytes(), b"".as_slice());
     }
     Ok(())
 }
 
+#[test]
+fn answers_and_refusals(rt: HostRuntime) -> Result<(), Fail> {
+    words_and_bytes_have_one_answer();
+    for rows in [
+        WORDS,
+        CLOSE,
+        OPEN,
+        CANON,
+        CHECK,
+        CHECK_MORE,
+        SAMPLE,
+        SAMPLE_MORE,
+        UNSAMPLE,
+        DRAW,
+    ] {
+        for row in rows.lines() {
+            check_row(&rt, rt.alloc(), row)?;
+        }
+    }
+    Ok(())
+}
+
+// Each record has one write, so what a failing second write leaves is the first record and a front of the second one. A
+// drawing reads nothing.
 #[test]
 fn failing_streams(rt: HostRuntime) -> Result<(), Fail> {
-    let tree = b"tree lbl\n".as_slice();
-    let third_read = Faults { read: 3, ..NONE };
-    let run = run_on(&rt, rt.alloc(), "close eulerian", tree, third_read)?;
-    assert_eq!(rt; run.status, 5);
-    assert_eq!(rt; run.out.bytes(), b"".as_slice());
-    assert_eq!(rt; run.err.bytes(), b"planarmap: read\n".as_slice());
-
-    let first_write = Faults {
-        out: 1,
-        part: 5,
-        ..NONE
-    };
-    let run = run_on(&rt, rt.alloc(), "close eulerian", tree, first_write)?;
-    assert_eq!(rt; run.status, 8);
-    assert_eq!(rt; run.out.bytes(), b"map 2".as_slice());
-    assert_eq!(rt; run.err.bytes(), b"planarmap: write\n".as_slice());
-
-    let flush = Faults { out: 2, ..NONE };
-    let run = run_on(&rt, rt.alloc(), "close eulerian", tree, flush)?;
-    assert_eq!(rt; run.status, 8);
-    assert_eq!(rt; run.out.bytes(), b"map 2 0\nv 0 1 2 3\nend\n".as_slice());
-    assert_eq!(rt; run.err.bytes(), b"planarmap: write\n".as_slice());
-
-    let err = Faults { err: 1, ..NONE };
-    let run = run_on(&rt, rt.alloc(), "close eulerian", b"tree llb\n", err)?;
-    assert_eq!(rt; run.status, 12);
-    assert_eq!(rt; run.out.bytes(), b"".as_slice());
-    Ok(())
-}
-
-// The map of four edges is renumbered; the residue line is read and not used.
-#[test]
-fn answers_to_map_files(rt: HostRuntime) -> Result<(), Fail> {
-    for (line, bytes, want) in [
+    let (close, draw) = ("close eulerian", "draw quartic 1 7 2");
+    for (line, faults, status, kept, told) in [
+        (close, Faults { read: 3, ..NONE }, 5, 0, "read"),
         (
-            "canon",
-            b"map 4 7\nv 7 0 2 6\nv 1 3 5 4\nend\nresidue 0 0 1 0\n".as_slice(),
-            b"map 4 0\nv 0 2 4 1\nv 3 5 6 7\nend\n".as_slice(),
+            close,
+            Faults {
+                out: 1,
+                part: 5,
+                ..NONE
+            },
+            8,
+            5,
+            "write",
         ),
+        (close, Faults { out: 2, ..NONE }, 8, 22, "write"),
+        (close, Faults { err: 1, ..NONE }, 0, 22, ""),
+        (draw, Faults { read: 1, ..NONE }, 0, 100, ""),
+        (draw, Faults { out: 2, ..NONE }, 8, 50, "write"),
         (
-            "canon",
-            b"map 0 0\nend\n".as_slice(),
-            b"map 0 0\nend\n".as_slice(),
+            draw,
+            Faults {
+                out: 2,
+                part: 9,
+                ..NONE
+            },
+            8,
+            59,
+            "write",
         ),
-        (
-            "canon",
-            b"map 2 0\nv 0 1 2 3\nend\n".as_slice(),
-            b"map 2 0\nv 0 1 2 3\nend\n".as_slice(),
-        ),
-        (
-            "check general",
-            b"map 2 0\nv 0 1 2 3\nend\n".as_slice(),
-            b"ok 1 2 3\n".as_slice(),
-        ),
-        (
-            "check general",
-            b"map 4 7\nv 7 0 2 6\nv 1 3 5 4\nend\nresidue 0 0 1 0\n".as_slice(),
-            b"ok 2 4 4\n".as_slice(),
-        ),
-        (
-            "check general",
-            b"map 0 0\nend\n".as_slice(),
-            b"ok 1 0 1\n".as_slice(),
-        ),
-        (
-            "check general",
-            b"map 1 1\nv 0\nv 1\nend\nresidue\n".as_slice(),
-            b"ok 2 1 1\n".as_slice(),
-        ),
+        (draw, Faults { out: 3, ..NONE }, 8, 100, "write"),
     ] {
-        let run = run_on(&rt, rt.alloc(), line, bytes, NONE)?;
-        assert_eq!(rt; run.status, 0);
-        assert_eq!(rt; run.out.bytes(), want);
-        assert_eq!(rt; run.err.bytes(), b"".as_slice());
-    }
-    Ok(())
-}
-
-#[test]
-fn refusals_of_map_files(rt: HostRuntime) -> Result<(), Fail> {
-    for (line, bytes, status, want) in [
-        (
-            "canon x",
-            b"".as_slice(),
-            2,
-            b"planarmap: usage 1\n".as_slice(),
-        ),
-        (
-            "check",
-            b"".as_slice(),
-            2,
-            b"planarmap: usage 1\n".as_slice(),
-        ),
-        (
-            "check quadratic",
-            b"".as_slice(),
-            2,
-            b"planarmap: usage 1\n".as_slice(),
-        ),
-        (
-            "check general 2",
-            b"".as_slice(),
-            2,
-            b"planarmap: usage 2\n".as_slice(),
-        ),
-        (
-            "check general",
-            b"".as_slice(),
-            3,
-            b"planarmap: text 1\n".as_slice(),
-        ),
-        (
-            "check general",
-            b"map 2 0\nv 0 1 2 3\n".as_slice(),
-            3,
-            b"planarmap: text 3\n".as_slice(),
-        ),
-        (
-            "check general",
-            b"map 02 0\n".as_slice(),
-            3,
-            b"planarmap: text 1\n".as_slice(),
-        ),
-        (
-            "check general",
-            b"map 2 0\nv 0 1 2 4\nend\n".as_slice(),
-            3,
-            b"planarmap: text 2\n".as_slice(),
-        ),
-        (
-            "check general",
-            b"map 2 0\nv 0 1 2\nend\n".as_slice(),
-            3,
-            b"planarmap: text 3\n".as_slice(),
-        ),
-        (
-            "check general",
-            b"map 2 0\nv 0 1 2 3\nv 0\nend\n".as_slice(),
-            3,
-            b"planarmap: text 3\n".as_slice(),
-        ),
-        (
-            "check general",
-            b"map 0 1\nend\n".as_slice(),
-            3,
-            b"planarmap: text 1\n".as_slice(),
-        ),
-        (
-            "check general",
-            b"map 0 0\nv 0\nend\n".as_slice(),
-            3,
-            b"planarmap: text 2\n".as_slice(),
-        ),
-        (
-            "check general",
-            b"map 1 2\nv 0\nv 1\nend\n".as_slice(),
-            3,
-            b"planarmap: text 1\n".as_slice(),
-        ),
-        (
-            "check general",
-            b"map 18446744073709551616 0\nend\n".as_slice(),
-            3,
-            b"planarmap: text 1\n".as_slice(),
-        ),
-        (
-            "check general",
-            b"map 9223372036854775808 0\nv 4294967296\nend\n".as_slice(),
-            3,
-            b"planarmap: text 3\n".as_slice(),
-        ),
-        (
-            "check general",
-            b"map 2 0\nv 0 1 2 2\nend\nx\n".as_slice(),
-            3,
-            b"planarmap: text 4\n".as_slice(),
-        ),
-        (
-            "check general",
-            b"map 2 0\nv\nend\n".as_slice(),
-            3,
-            b"planarmap: text 2\n".as_slice(),
-        ),
-        (
-            "check general",
-            b"map 2 0\nv 0 1 2 3 \nend\n".as_slice(),
-            3,
-            b"planarmap: text 2\n".as_slice(),
-        ),
-        (
-            "check general",
-            b"map 2 0\nv 0 1 2 3\nend\nresidue 1\nresidue 1\n".as_slice(),
-            3,
-            b"planarmap: text 5\n".as_slice(),
-        ),
-        (
-            "check general",
-            b"map 2 0\nv 0 1 2 2\nend\n".as_slice(),
-            6,
-            b"planarmap: map permutation 3\n".as_slice(),
-        ),
-        (
-            "check general",
-            b"map 2 0\nv 0 2 1 3\nend\n".as_slice(),
-            6,
-            b"planarmap: map euler 0\n".as_slice(),
-        ),
-        (
-            "canon",
-            b"map 2 0\nv 0 2 1 3\nend\n".as_slice(),
-            6,
-            b"planarmap: map euler 0\n".as_slice(),
-        ),
-        (
-            "check general",
-            b"map 4 0\nv 0 1 2 3\nv 4 6 5 7\nend\n".as_slice(),
-            6,
-            b"planarmap: map connected 4\n".as_slice(),
-        ),
-    ] {
-        let run = run_on(&rt, rt.alloc(), line, bytes, NONE)?;
+        let whole = run_on(&rt, rt.alloc(), line, b"tree lbl\n", NONE)?;
+        let run = run_on(&rt, rt.alloc(), line, b"tree lbl\n", faults)?;
         assert_eq!(rt; run.status, status, "at {line}");
-        assert_eq!(rt; run.err.bytes(), want);
-        assert_eq!(rt; run.out.bytes(), b"".as_slice());
+        assert_eq!(rt; run.out.bytes().len(), kept, "at {line}");
+        assert!(rt; whole.out.bytes().starts_with(run.out.bytes()));
+        let line = std::str::from_utf8(run.err.bytes())?;
+        assert!(rt; line.trim_end().ends_with(told));
     }
     Ok(())
 }
 
-// What sampling prints is a file that checking takes.
+// What one command answers, another undoes: the words of both, and the bytes that come back.
 #[test]
-fn samples_and_checks_quartic_maps(rt: HostRuntime) -> Result<(), Fail> {
-    for (line, bytes, want) in [
-        (
-            "sample quartic 1",
-            b"choices 0 2 0\n".as_slice(),
-            b"map 2 0\nv 0 1 2 3\nend\nresidue 2 0 0\n".as_slice(),
-        ),
-        (
-            "sample quartic 1",
-            b"choices 1 0 1\n".as_slice(),
-            b"map 2 0\nv 0 1 2 3\nend\nresidue 1 1 0\n".as_slice(),
-        ),
+fn back_again(rt: HostRuntime) -> Result<(), Fail> {
+    opening_undoes_closing();
+    sampling_undoes_unsampling();
+    for (there, back, bytes) in [
+        ("close eulerian", "open eulerian", "tree (l)\n"),
+        ("close eulerian", "open eulerian", "tree b(b(l)l)l\n"),
+        ("close eulerian", "open eulerian", "tree b(bl(bll))l\n"),
+        ("close eulerian", "open eulerian", "tree bb(bbl(bll)l)ll\n"),
         (
             "sample quartic 2",
-            b"choices 0 0 0 0 0\n".as_slice(),
-            b"map 4 0\nv 0 2 4 1\nv 3 5 6 7\nend\nresidue 0 0 1 0\n".as_slice(),
+            "unsample quartic",
+            "choices 1 5 0 1 0\n",
         ),
         (
-            "check quartic",
-            b"map 4 0\nv 0 2 4 1\nv 3 5 6 7\nend\nresidue 0 0 1 0\n".as_slice(),
-            b"ok 2 4 4\n".as_slice(),
+            "sample quartic 3",
+            "unsample quartic",
+            "choices 1 5 8 2 1 1 1\n",
         ),
         (
-            "check quartic",
-            b"map 2 0\nv 0 1 2 3\nend\n".as_slice(),
-            b"ok 1 2 3\n".as_slice(),
+            "sample eulerian 2:1,4:1",
+            "unsample eulerian",
+            "choices 3 1 0 0 0 1 1\n",
         ),
     ] {
-        let run = run_on(&rt, rt.alloc(), line, bytes, NONE)?;
-        assert_eq!(rt; run.status, 0);
-        assert_eq!(rt; run.out.bytes(), want);
-        assert_eq!(rt; run.err.bytes(), b"".as_slice());
+        let gone = run_on(&rt, rt.alloc(), there, bytes.as_bytes(), NONE)?;
+        assert_eq!(rt; gone.status, 0, "at {there}");
+        let run = run_on(&rt, rt.alloc(), back, gone.out.bytes(), NONE)?;
+        assert_eq!(rt; run.status, 0, "at {back}");
+        assert_eq!(rt; run.out.bytes(), bytes.as_bytes());
+    }
+    Ok(())
+}
+
+// The line of choices of a drawn record, given to `sample`, gives the rest of the record, which `unsample` takes back.
+#[test]
+fn records_are_sampled(rt: HostRuntime) -> Result<(), Fail> {
+    for (class, size) in [("quartic", "1000"), ("eulerian", "2:300,4:300,6:100")] {
+        let line = format!(in rt.alloc(); "draw {class} {size} 7 1")?;
+        let drawn = run_on(&rt, rt.alloc(), line.as_str(), b"", NONE)?;
+        assert_eq!(rt; drawn.status, 0);
+        let text = std::str::from_utf8(drawn.out.bytes())?;
+        let (_, rest) = text.split_once('\n').expect(&rt, "a line");
+        let choices = &text.as_bytes()[..text.len() - rest.len()];
+        let line = format!(in rt.alloc(); "sample {class} {size}")?;
+        let sampled = run_on(&rt, rt.alloc(), line.as_str(), choices, NONE)?;
+        assert_eq!(rt; sampled.out.bytes(), rest.as_bytes());
+        let line = format!(in rt.alloc(); "unsample {class}")?;
+        let run = run_on(&rt, rt.alloc(), line.as_str(), rest.as_bytes(), NONE)?;
+        assert_eq!(rt; run.out.bytes(), choices);
     }
     Ok(())
 }
 
 #[test]
-fn refusals_of_quartic_maps(rt: HostRuntime) -> Result<(), Fail> {
-    for (line, bytes, status, want) in [
-        (
-            "sample",
-            b"".as_slice(),
-            2,
-            b"planarmap: usage 1\n".as_slice(),
-        ),
-        (
-            "sample quartic",
-            b"".as_slice(),
-            2,
-            b"planarmap: usage 2\n".as_slice(),
-        ),
-        (
-            "sample quartic 0",
-            b"".as_slice(),
-            2,
-            b"planarmap: usage 2\n".as_slice(),
-        ),
-        (
-            "sample quartic 2097153",
-            b"".as_slice(),
-            2,
-            b"planarmap: usage 2\n".as_slice(),
-        ),
-        (
-            "sample quartic 01",
-            b"".as_slice(),
-            2,
-            b"planarmap: usage 2\n".as_slice(),
-        ),
-        (
-            "sample quartic 1 x",
-            b"".as_slice(),
-            2,
-            b"planarmap: usage 3\n".as_slice(),
-        ),
-        (
-            "sample general 1",
-            b"".as_slice(),
-            2,
-            b"planarmap: usage 1\n".as_slice(),
-        ),
-        (
-            "check quartic 1",
-            b"".as_slice(),
-            2,
-            b"planarmap: usage 2\n".as_slice(),
-        ),
-        (
-            "sample quartic 2097152",
-            b"".as_slice(),
-            3,
-            b"planarmap: text 1\n".as_slice(),
-        ),
-        (
-            "sample quartic 1",
-            b"choices 2 0 0\n".as_slice(),
-            4,
-            b"planarmap: list entry 0 2 2\n".as_slice(),
-        ),
-        (
-            "sample quartic 1",
-            b"choices 0 2\n".as_slice(),
-            4,
-            b"planarmap: list length 3 2\n".as_slice(),
-        ),
-        (
-            "sample quartic 1",
-            b"choices\n".as_slice(),
-            4,
-            b"planarmap: list length 3 0\n".as_slice(),
-        ),
-        (
-            "sample quartic 1",
-            b"choices 0 0 0 \n".as_slice(),
-            3,
-            b"planarmap: text 1\n".as_slice(),
-        ),
-        (
-            "sample quartic 1",
-            b"choices 0 0 0\nx\n".as_slice(),
-            3,
-            b"planarmap: text 2\n".as_slice(),
-        ),
-        (
-            "sample quartic 1",
-            b"choices 0 0 0".as_slice(),
-            3,
-            b"planarmap: text 1\n".as_slice(),
-        ),
-        (
-            "sample quartic 1",
-            b"choice 0 0 0\n".as_slice(),
-            3,
-            b"planarmap: text 1\n".as_slice(),
-        ),
-        (
-            "check quartic",
-            b"map 2 0\nv 0 2 1 3\nend\n".as_slice(),
-            6,
-            b"planarmap: map euler 0\n".as_slice(),
-        ),
-        (
-            "check quartic",
-            b"map 4 0\nv 0 1 2 3\nv 4 6 5 7\nend\n".as_slice(),
-            6,
-            b"planarmap: map connected 4\n".as_slice(),
-        ),
-        (
-            "check quartic",
-            b"map 1 0\nv 0\nv 1\nend\n".as_slice(),
-            6,
-            b"planarmap: map vertex 0\n".as_slice(),
-        ),
-        (
-            "check quartic",
-            b"map 0 0\nend\n".as_slice(),
-            6,
-            b"planarmap: map empty\n".as_slice(),
-        ),
-    ] {
-        let run = run_on(&rt, rt.alloc(), line, bytes, NONE)?;
-        assert_eq!(rt; run.status, status, "at {line}");
-        assert_eq!(rt; run.err.bytes(), want);
-        assert_eq!(rt; run.out.bytes(), b"".as_slice());
-    }
+fn fewer_records_are_a_front(rt: HostRuntime) -> Result<(), Fail> {
+    let few = run_on(&rt, rt.alloc(), "draw quartic 100 5 3", b"", NONE)?;
+    let roomy = Faults {
+        room: 10_000_000,
+        ..NONE
+    };
+    let many = run_on(&rt, rt.alloc(), "draw quartic 100 5 1000", b"", roomy)?;
+    assert_eq!(rt; few.status, 0);
+    assert_eq!(rt; many.status, 0);
+    assert!(rt; many.out.bytes().starts_with(few.out.bytes()));
     Ok(())
 }

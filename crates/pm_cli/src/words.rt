@@ -38,6 +38,9 @@ fn quartic_size(word: &String) -> Option<u32>
 /// The greatest number of records that one command draws.
 pub const MAX_RECORDS: u64 = 1000;
 
+// The number is part of the program's manual: another one is refused here.
+const _: () = prove!(MAX_RECORDS == 1_000);
+
 // The count of records that the word spells, where there is one.
 fn record_count(word: &String) -> Option<u64>
     ensures { MatchOption result

@@ -34,6 +34,9 @@ use std::alloc::AllocError;
 /// The most bytes that an input may have, 256 MiB.
 pub const MAX_BYTES: usize = 268_435_456;
 
+// The number is part of the program's manual: another one is refused here.
+const _: () = prove!(MAX_BYTES == 268_435_456);
+
 /// A read or a write failed. The cause lies outside: the stream's count of faults rose in that call.
 #[derive(Clone, Copy, Debug, PartialEq, Eq)]
 pub struct Failed;

@@ -7,9 +7,11 @@ use Rattle.pm_cli.proofs.Records.{none_written, first_written, one_more_written,
 use Rattle.pm_cli.proofs.draw.draw.Goals as goal
 
 pub returns-in-Err-draw_record : goal.returns-in-Err-draw_record
-returns-in-Err-draw_record g c =
-    inr (first_written (g.C.MapClass.choice_limits c.args.size.now) (g.C.MapClass.samples c.args.size.now) c.records_go_on.ensures c.args.seed c.records._place c.args.count
-    (g.O.Sink.holds c.args.out.now) (g.O.Sink.holds c.records.out) (words_of c.records.rng) (omega arith) c.records.invariant.so_far)
+returns-in-Err-draw_record g c = (
+  inr (first_written (g.C.MapClass.choice_limits c.args.size.now) (g.C.MapClass.samples c.args.size.now) c.records_go_on.ensures c.args.seed c.records._place c.args.count
+      (g.O.Sink.holds c.args.out.now) (g.O.Sink.holds c.records.out) (words_of c.records.rng) (omega arith) c.records.invariant.so_far),
+  c.records.invariant.calm,
+)
 
 pub records-init : goal.records-init
 records-init g c = record { so_far = none_written _ _ c.args.seed _ (words_of c.rng_of-rng.result) (ap words_of c.rng_of-rng.ensures); calm = refl }

@@ -1,6 +1,6 @@
 use Rattle.std.proofs.Common.{◌∙◌}
 use Rattle.std.specs.Prelude.{Err}
-use Rattle.pm_cli.proofs.EndingLemmas.{ends_told, told_no_write, told_memory}
+use Rattle.pm_cli.proofs.EndingLemmas.{ends_told, told_no_read, told_no_write, told_memory}
 use Rattle.pm_cli.proofs.engine.run.Goals as goal
 
 pub returns-in-Err-clause-ends : goal.returns-in-Err-clause-ends
@@ -11,3 +11,11 @@ pub returns-in-Err-clause-nothing_added : goal.returns-in-Err-clause-nothing_add
 returns-in-Err-clause-nothing_added g c _ no_write in_one =
     c.in-Err.ensures.nothing_added (told_no_write c.in-Err.stop c.tell.result c.tell.ensures.same (λ e. no_write (c.status.ensures ∙ e)))
     (λ memory. in_one (c.status.ensures ∙ told_memory c.in-Err.stop c.tell.result c.tell.ensures.same memory))
+
+pub returns-in-Err-clause-calm_input : goal.returns-in-Err-clause-calm_input
+returns-in-Err-clause-calm_input g c no_read =
+    c.in-Err.ensures.calm_read (told_no_read c.in-Err.stop c.tell.result c.tell.ensures.same (λ e. no_read (c.status.ensures ∙ e)))
+
+pub returns-in-Err-clause-calm_output : goal.returns-in-Err-clause-calm_output
+returns-in-Err-clause-calm_output g c no_write =
+    c.in-Err.ensures.calm_write (told_no_write c.in-Err.stop c.tell.result c.tell.ensures.same (λ e. no_write (c.status.ensures ∙ e)))
