@@ -8,7 +8,6 @@ pub mod DegreeTable
 pub mod DistanceLaws
 pub mod DualLaws
 pub mod EdgeNumbers
-pub mod Ends
 pub mod FaceDistance
 pub mod FaceWalk
 pub mod Meeting
