@@ -1,7 +1,7 @@
-pub mod CanonLemmas
+mod CanonLemmas
 pub mod ExistenceLemmas
 pub mod KeptLemmas
 pub mod MeetingLemmas
-pub mod MentionLemmas
-pub mod NamingLemmas
+mod MentionLemmas
+mod NamingLemmas
 pub mod WalkLemmas

@@ -5,7 +5,8 @@ use Rattle.std.proofs.lemmas.Bool.{or_cases, or_left, or_right, or_parts, or_fro
 use Rattle.pm_map.specs.Rotation.{twin}
 use Rattle.pm_map.specs.Canonical.{first_mentions_after, first_mentions}
 use Rattle.pm_map.specs.Meeting.{Stands}
-use Rattle.pm_map.proofs.WholeMeeting.{test_from_stands, stands_from_test, stands-cons}
+use Rattle.pm_map.proofs.StandsLemmas.{Stands-cons}
+use Rattle.pm_map.proofs.WholeMeeting.{test_from_stands, stands_from_test}
 use Rattle.pm_map.proofs.CanonicalNames.{first_mentions_after-seen, first_mentions_after-new}
 
 pub twin-twin : (d : ℕ) → twin (twin d) ≡ d
@@ -60,9 +61,9 @@ first_mentions-new darts d unseen = push_new [] darts d refl (false_from_ne_true
 -- mentions are darts of the list
 head_stands : (x : ℕ) (darts later : List ℕ) (b : Bool) → ((k : ℕ) → k < length later → Stands darts (get_or later k 0))
     → (k : ℕ) → k < length (cond b later (x ∷ later)) → Stands (x ∷ darts) (get_or (cond b later (x ∷ later)) k 0)
-head_stands x darts later true stand k h = stands-cons x darts (get_or later k 0) (stand k h)
+head_stands x darts later true stand k h = Stands-cons x darts (get_or later k 0) (stand k h)
 head_stands x darts later false stand zero h = (0, record { within = omega arith; here = refl })
-head_stands x darts later false stand (suc k) h = stands-cons x darts (get_or later k 0) (stand k (omega arith))
+head_stands x darts later false stand (suc k) h = Stands-cons x darts (get_or later k 0) (stand k (omega arith))
 
 mention_stands : (before darts : List ℕ) (k : ℕ) → k < length (first_mentions_after before darts) → Stands darts (get_or (first_mentions_after before darts) k 0)
 mention_stands before [] k h = absurd (omega arith)

@@ -1,63 +1,56 @@
 //! Worked values.
 use crate::{canon, meeting_list, same};
-use pm_map::RootedMap;
+use pm_map::{MapRefusal, RootedMap};
+use std::alloc::{AllocError, Global};
 use std::test::Fail;
 
-#[test]
-fn canonical_path(rt: HostRuntime) -> Result<(), Fail> {
-    let sigma = Vec::from_slice(rt.alloc(), &[3, 1, 2, 0])?;
-    let answer = RootedMap::from_parts(rt.alloc(), sigma, 3);
-    assert!(rt; answer.is_ok());
-    let Ok(path) = answer else { return Ok(()) };
-    let canonical = canon(rt.alloc(), &path)?;
-    assert_eq!(rt; canonical.root(), 0);
-    assert_eq!(rt; canonical.sigma(), [2, 1, 0, 3].as_slice());
-    assert!(rt; same(rt.alloc(), &path, &canonical)?);
-    Ok(())
+// A path of two edges, with the darts 0 and 3 at its middle.
+const PATH: [u32; 4] = [3, 1, 2, 0];
+// Two loops at one vertex, side by side.
+const LOOPS: [u32; 4] = [1, 2, 3, 0];
+
+// What a rotation and a root are answered, and nothing where they mustn't be asked for.
+fn answer_of(
+    alloc: Global,
+    sigma: &[u32],
+    root: u32,
+) -> Result<Option<Result<RootedMap, MapRefusal>>, AllocError> {
+    let is_dart = (root as usize) < sigma.len() || (sigma.is_empty() && root == 0);
+    if sigma.len() % 2 != 0 || !is_dart {
+        return Ok(None);
+    }
+    let sigma = Vec::from_slice(alloc, sigma)?;
+    Ok(Some(RootedMap::from_parts(alloc, sigma, root)))
 }
 
+// The darts of each map as they are met, its canonical rotation, and whether it is the path from the other dart at its
+// middle: the path from its middle and from an end, the loops, no dart.
 #[test]
-fn canonical_loops(rt: HostRuntime) -> Result<(), Fail> {
-    let sigma = Vec::from_slice(rt.alloc(), &[1, 2, 3, 0])?;
-    let answer = RootedMap::from_parts(rt.alloc(), sigma, 3);
-    assert!(rt; answer.is_ok());
-    let Ok(loops) = answer else { return Ok(()) };
-    let canonical = canon(rt.alloc(), &loops)?;
-    assert_eq!(rt; canonical.root(), 0);
-    assert_eq!(rt; canonical.sigma(), [2, 0, 3, 1].as_slice());
-    let sigma = Vec::from_slice(rt.alloc(), &[3, 1, 2, 0])?;
-    let answer = RootedMap::from_parts(rt.alloc(), sigma, 3);
-    assert!(rt; answer.is_ok());
-    let Ok(path) = answer else { return Ok(()) };
-    assert!(rt; !same(rt.alloc(), &loops, &path)?);
-    Ok(())
-}
-
-#[test]
-fn no_dart(rt: HostRuntime) -> Result<(), Fail> {
-    let answer = RootedMap::from_parts(rt.alloc(), Vec::new(rt.alloc()), 0);
-    assert!(rt; answer.is_ok());
-    let Ok(none) = answer else { return Ok(()) };
-    let canonical = canon(rt.alloc(), &none)?;
-    assert_eq!(rt; canonical.edges(), 0);
-    assert!(rt; same(rt.alloc(), &none, &canonical)?);
-    Ok(())
-}
-
-#[test]
-fn maps_with_other_roots(rt: HostRuntime) -> Result<(), Fail> {
-    let sigma = Vec::from_slice(rt.alloc(), &[3, 1, 2, 0])?;
-    let answer = RootedMap::from_parts(rt.alloc(), sigma, 3);
-    assert!(rt; answer.is_ok());
-    let Ok(middle) = answer else { return Ok(()) };
-    let darts = meeting_list(rt.alloc(), middle.sigma(), middle.root())?;
-    assert_eq!(rt; darts.as_slice(), [3, 0, 2, 1].as_slice());
-    let sigma = Vec::from_slice(rt.alloc(), &[3, 1, 2, 0])?;
-    let answer = RootedMap::from_parts(rt.alloc(), sigma, 1);
-    assert!(rt; answer.is_ok());
-    let Ok(end) = answer else { return Ok(()) };
-    let darts = meeting_list(rt.alloc(), end.sigma(), end.root())?;
-    assert_eq!(rt; darts.as_slice(), [1, 0, 3, 2].as_slice());
-    assert!(rt; !same(rt.alloc(), &middle, &end)?);
+fn meets_and_numbers(rt: HostRuntime) -> Result<(), Fail> {
+    let rows: [(&[u32], u32, &[u32], &[u32], bool); 4] = [
+        (&PATH, 3, &[3, 0, 2, 1], &[2, 1, 0, 3], true),
+        (&PATH, 1, &[1, 0, 3, 2], &[0, 2, 1, 3], false),
+        (&LOOPS, 3, &[3, 0, 1, 2], &[2, 0, 3, 1], false),
+        (&[], 0, &[], &[], false),
+    ];
+    let path = answer_of(rt.alloc(), &PATH, 0)?;
+    assert!(rt; matches!(&path, Some(Ok(_))));
+    let Some(Ok(path)) = path else {
+        return Ok(())
+    };
+    for (sigma, root, met, canonical_sigma, is_path) in rows {
+        let answer = answer_of(rt.alloc(), sigma, root)?;
+        assert!(rt; matches!(&answer, Some(Ok(_))));
+        let Some(Ok(map)) = answer else {
+            return Ok(())
+        };
+        let darts = meeting_list(rt.alloc(), map.sigma(), map.root())?;
+        assert_eq!(rt; darts.as_slice(), met);
+        let canonical = canon(rt.alloc(), &map)?;
+        assert_eq!(rt; canonical.root(), 0);
+        assert_eq!(rt; canonical.sigma(), canonical_sigma);
+        assert!(rt; same(rt.alloc(), &map, &canonical)?);
+        assert_eq!(rt; same(rt.alloc(), &map, &path)?, is_path);
+    }
     Ok(())
 }

@@ -10,7 +10,8 @@ use Rattle.pm_map.specs.Rotation.{RotationSystem, structure_of, twin, IsRootedMa
 use Rattle.pm_map.specs.Canonical.{first_mentions_after, first_mentions, IsCanonical, IsCanonicalOf}
 use Rattle.pm_map.proofs.UniqueMeeting.{meeting_list_is_unique}
 use Rattle.pm_map.proofs.CarriedMeeting.{AreBelow, meets_below, darts_of-map, meeting_list_carried}
-use Rattle.pm_map.proofs.WholeMeeting.{stands-cons, stands_from_test, meeting_list_is_whole}
+use Rattle.pm_map.proofs.StandsLemmas.{Stands-cons}
+use Rattle.pm_map.proofs.WholeMeeting.{stands_from_test, meeting_list_is_whole}
 
 -- the meeting list's darts are darts of the structure
 pub meeting_list_below : (s : Structure) (vertices : List (List ℕ)) → IsStructure s → IsMeetingList s vertices → AreBelow s.darts (darts_of vertices)
@@ -94,7 +95,7 @@ stands_nowhere : (d : ℕ) → Stands [] d → ⊥
 stands_nowhere d stands = let within : stands.0 < 0 = (stands.1).within in omega arith
 
 HasEdge-cons : (x : ℕ) (xs : List ℕ) (d : ℕ) → HasEdge xs d → HasEdge (x ∷ xs) d
-HasEdge-cons x xs d has = elim has [ inl dart ↦ inl (stands-cons x xs d dart) | inr other ↦ inr (stands-cons x xs (twin d) other) ]
+HasEdge-cons x xs d has = elim has [ inl dart ↦ inl (Stands-cons x xs d dart) | inr other ↦ inr (Stands-cons x xs (twin d) other) ]
 
 mention_here : (before : List ℕ) (x : ℕ) (darts : List ℕ) (d : ℕ) → x ≡ d → HasEdge (first_mentions_after before (x ∷ darts)) d ⊎ HasEdge before d
 mention_here before x darts d is =

@@ -14,14 +14,14 @@ pub mod DistanceRounds
 pub mod DistancesBack
 pub mod DualMaps
 pub mod EdgeNumbering
-pub mod EulerLemmas
-pub mod FaceWalkLemmas
+mod EulerLemmas
+mod FaceWalkLemmas
 pub mod MarksLemmas
 pub mod NumberedEdges
 pub mod SameMaps
 pub mod SearchLemmas
 pub mod SimpleDarts
-pub mod SimpleLemmas
+mod SimpleLemmas
 pub mod StandsLemmas
 pub mod TableLemmas
 pub mod TwinLemmas

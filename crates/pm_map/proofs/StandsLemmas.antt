@@ -1,5 +1,5 @@
 -- Where a dart stands in a list, and in two lists end to end.
-use Rattle.std.proofs.Common.{◌≡◌, ℕ, ◌+◌, ◌-◌, ◌<◌, ◌⊎◌, inl, inr, List, [], ◌∷◌, ◌++◌, length, get_or, map, refl, sym, ◌∙◌, ap, arith, length-append, get_or-append-add}
+use Rattle.std.proofs.Common.{◌≡◌, ℕ, suc, ◌+◌, ◌-◌, ◌<◌, ◌⊎◌, inl, inr, List, [], ◌∷◌, ◌++◌, length, get_or, map, refl, sym, ◌∙◌, ap, arith, length-append, get_or-append-add}
 use Rattle.std.proofs.lemmas.List.{get_or_append_left, get_or-append_right, get_or-map, length-map, get_or_push}
 use Rattle.std.proofs.lemmas.Bool.{cases_lt}
 use Rattle.pm_map.specs.Meeting.{Stands}
@@ -7,6 +7,9 @@ use Rattle.pm_map.specs.Meeting.{Stands}
 -- a dart of the list stands in it
 pub Stands-get_or : (darts : List ℕ) (place : ℕ) → place < length darts → Stands darts (get_or darts place 0)
 Stands-get_or darts place h = (place, record { within = h; here = refl })
+
+pub Stands-cons : (x : ℕ) (xs : List ℕ) (d : ℕ) → Stands xs d → Stands (x ∷ xs) d
+Stands-cons x xs d s = (suc s.0, record { within = omega (arith, s.1.within); here = s.1.here })
 
 pub Stands-append_left : (first second : List ℕ) (d : ℕ) → Stands first d → Stands (first ++ second) d
 Stands-append_left first second d s =

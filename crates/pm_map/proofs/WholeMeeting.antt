@@ -1,42 +1,14 @@
 -- The meeting list of a connected structure has every dart, each once.
-use Rattle.std.proofs.Common.{◌≡◌, ℕ, zero, suc, ◌+◌, ◌-◌, ◌<◌, true, ◌==◌, List, [], ◌∷◌, ◌++◌, length, slice_index, refl, sym, ap, ◌∙◌, subst, ◌⊎◌, inl, inr, append-nil, length-append, get_or-append-add, eq-eqb, eqb-true, arith}
+use Rattle.std.proofs.Common.{◌≡◌, ℕ, zero, suc, ◌+◌, ◌-◌, ◌<◌, true, ◌==◌, List, [], ◌∷◌, ◌++◌, length, slice_index, refl, sym, ap, ◌∙◌, subst, inl, inr, append-nil, length-append, eq-eqb, eqb-true, arith}
 use Rattle.std.specs.List.{list_any}
 use Rattle.std.proofs.lemmas.Bool.{cases_lt, cases_order, or_cases, false≢true}
 use Rattle.std.proofs.lemmas.List.{get_or_append_left, get_or-append_right}
 use Rattle.std.proofs.lemmas.List.Folds.{list_any_at}
 use Rattle.pm_map.specs.Structure.{Structure, IsStructure, IsClosedSet, IsConnected}
 use Rattle.pm_map.specs.Meeting.{Stands, IsVertexFrom, darts_of, Meets, at_root, onward, IsMeetingList, no_dart, complete}
+use Rattle.pm_map.proofs.StandsLemmas.{Stands-cons, Stands-append_left, Stands-append_right, cases_Stands}
 use Rattle.pm_map.proofs.UniqueMeeting.{vertex_begins}
 use Rattle.pm_map.proofs.CarriedMeeting.{AreBelow, stands_below, darts_of-onward, vertex_below, meets_below}
-
-pub stands-append_left : (xs ys : List ℕ) (d : ℕ) → Stands xs d → Stands (xs ++ ys) d
-stands-append_left xs ys d stands =
-    let within : stands.0 < length xs = (stands.1).within in
-    (stands.0, record { within = omega (arith, length-append xs ys); here = get_or_append_left xs ys 0 stands.0 within ∙ (stands.1).here })
-
-pub stands-append_right : (xs ys : List ℕ) (d : ℕ) → Stands ys d → Stands (xs ++ ys) d
-stands-append_right xs ys d stands =
-    let within : stands.0 < length ys = (stands.1).within in
-    (length xs + stands.0, record { within = omega (arith, length-append xs ys); here = get_or-append-add xs ys stands.0 0 ∙ (stands.1).here })
-
-pub stands-append_cases : (xs ys : List ℕ) (d : ℕ) → Stands (xs ++ ys) d → Stands xs d ⊎ Stands ys d
-stands-append_cases xs ys d stands =
-    let within : stands.0 < length (xs ++ ys) = (stands.1).within in
-    elim (cases_lt stands.0 (length xs)) [
-      | inl front ↦ inl (stands.0, record { within = front; here = sym (get_or_append_left xs ys 0 stands.0 front) ∙ (stands.1).here })
-      | inr back ↦ inr (
-        stands.0 - length xs,
-        record {
-          within = omega (arith, length-append xs ys);
-          here = sym (get_or-append_right xs ys (length xs) stands.0 0 refl back) ∙ (stands.1).here;
-        },
-      )
-    ]
-
-pub stands-cons : (x : ℕ) (xs : List ℕ) (d : ℕ) → Stands xs d → Stands (x ∷ xs) d
-stands-cons x xs d stands =
-    let within : stands.0 < length xs = (stands.1).within in
-    (suc stands.0, record { within = omega arith; here = (stands.1).here })
 
 -- the test whether a dart stands in the list
 pub test_from_stands : (darts : List ℕ) (d : ℕ) → Stands darts d → list_any (λ e. e == d) darts ≡ true
@@ -48,7 +20,7 @@ stands_from_test [] d test = absurd (false≢true test)
 stands_from_test (x ∷ darts) d test =
     elim (or_cases (x == d) (list_any (λ e. e == d) darts) test) [
       | inl here ↦ (0, record { within = omega arith; here = eqb-true x d here })
-      | inr later ↦ stands-cons x darts d (stands_from_test darts d later)
+      | inr later ↦ Stands-cons x darts d (stands_from_test darts d later)
     ]
 
 -- with each dart that stands in the list the next around its vertex stands in it
@@ -72,9 +44,9 @@ vertex_holds_next s e vertex is = record {
 HoldsNext-append : (s : Structure) (xs ys : List ℕ) → HoldsNext s xs → HoldsNext s ys → HoldsNext s (xs ++ ys)
 HoldsNext-append s xs ys hx hy = record {
   next_stands = λ d stands.
-      elim (stands-append_cases xs ys d stands) [
-        | inl front ↦ stands-append_left xs ys (s.next d) (hx.next_stands d front)
-        | inr back ↦ stands-append_right xs ys (s.next d) (hy.next_stands d back)
+      elim (cases_Stands xs ys d stands) [
+        | inl front ↦ Stands-append_left xs ys (s.next d) (hx.next_stands d front)
+        | inr back ↦ Stands-append_right xs ys (s.next d) (hy.next_stands d back)
       ];
 }
 
@@ -90,7 +62,7 @@ pub root_is_met : (s : Structure) (vertices : List (List ℕ)) → Meets s verti
 root_is_met s vertices (at_root vertex is) =
     subst (λ ds. Stands ds s.root) (sym (append-nil vertex)) (0, record { within = (vertex_begins s s.root vertex is).0; here = (vertex_begins s s.root vertex is).1 })
 root_is_met s vertices (onward before d vertex met unmet is) =
-    subst (λ ds. Stands ds s.root) (sym (darts_of-onward before vertex)) (stands-append_left (darts_of before) vertex s.root (root_is_met s before met))
+    subst (λ ds. Stands ds s.root) (sym (darts_of-onward before vertex)) (Stands-append_left (darts_of before) vertex s.root (root_is_met s before met))
 
 -- in a connected structure every dart is met
 pub meeting_list_is_whole : (s : Structure) (vertices : List (List ℕ)) → IsConnected s → IsMeetingList s vertices → (d : ℕ) → d < s.darts → Stands (darts_of vertices) d

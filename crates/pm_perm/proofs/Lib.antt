@@ -1,21 +1,21 @@
 pub mod BothNested
-pub mod Checks
+mod Checks
 pub mod Counts
 pub mod EvenCounts
 pub mod CycleLists
 pub mod Interleaved
 pub mod InverseLemmas
 pub mod LeaderMaps
-pub mod LeadersWritten
+mod LeadersWritten
 pub mod LeastLemmas
-pub mod Merged
+mod Merged
 pub mod Nested
 pub mod PairCounts
 pub mod PartMaps
 pub mod PartPairs
-pub mod Parted
+mod Parted
 pub mod Permutations
-pub mod PlacesWritten
+mod PlacesWritten
 pub mod Renumbered
 pub mod Repeats
 pub mod SameCycle
