@@ -35,15 +35,11 @@ fn meets_and_numbers(rt: HostRuntime) -> Result<(), Fail> {
     ];
     let path = answer_of(rt.alloc(), &PATH, 0)?;
     assert!(rt; matches!(&path, Some(Ok(_))));
-    let Some(Ok(path)) = path else {
-        return Ok(())
-    };
+    let Some(Ok(path)) = path else { return Ok(()) };
     for (sigma, root, met, canonical_sigma, is_path) in rows {
         let answer = answer_of(rt.alloc(), sigma, root)?;
         assert!(rt; matches!(&answer, Some(Ok(_))));
-        let Some(Ok(map)) = answer else {
-            return Ok(())
-        };
+        let Some(Ok(map)) = answer else { return Ok(()) };
         let darts = meeting_list(rt.alloc(), map.sigma(), map.root())?;
         assert_eq!(rt; darts.as_slice(), met);
         let canonical = canon(rt.alloc(), &map)?;
