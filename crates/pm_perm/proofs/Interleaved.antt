@@ -6,7 +6,7 @@ use Rattle.pm_perm.specs.Count.{count_below}
 use Rattle.pm_perm.specs.Permutation.{IsPermutationBelow}
 use Rattle.pm_perm.specs.Cycles.{leader, cycles}
 use Rattle.pm_perm.proofs.Counts.{count_below-same}
-use Rattle.pm_perm.proofs.LeaderMaps.{IsKeptBelow, IsLeaderMap, leader-map, cycles-count}
+use Rattle.pm_perm.proofs.LeaderMaps.{IsLeaderMap, leader-map, cycles-count}
 
 -- h is f on the even numbers and g on the odd ones
 pub record IsInterleaved (n : ℕ) (f g h : ℕ → ℕ) : Type 0 where
@@ -59,11 +59,11 @@ module _ (n : ℕ) (f g h : ℕ → ℕ) (pf : IsPermutationBelow n f) (pg : IsP
     injective = λ j k hj hk same.
         by_parity (λ j. (k : ℕ) → k < 2 * n → h j ≡ h k → j ≡ k) n
         (λ d less. by_parity (λ k. h (2 * d) ≡ h k → 2 * d ≡ k) n
-            (λ e less' same. let here = is.even d less in let there = is.even e less' in ap (λ x. 2 * x) (pf.injective d e less less' (omega arith)))
-            (λ e less' same. let here = is.even d less in let there = is.odd e less' in absurd (omega arith)))
+        (λ e less' same. let here = is.even d less in let there = is.even e less' in ap (λ x. 2 * x) (pf.injective d e less less' (omega arith)))
+        (λ e less' same. let here = is.even d less in let there = is.odd e less' in absurd (omega arith)))
         (λ d less. by_parity (λ k. h (suc (2 * d)) ≡ h k → suc (2 * d) ≡ k) n
-            (λ e less' same. let here = is.odd d less in let there = is.even e less' in absurd (omega arith))
-            (λ e less' same. let here = is.odd d less in let there = is.odd e less' in ap (λ x. suc (2 * x)) (pg.injective d e less less' (omega arith))))
+        (λ e less' same. let here = is.odd d less in let there = is.even e less' in absurd (omega arith))
+        (λ e less' same. let here = is.odd d less in let there = is.odd e less' in ap (λ x. suc (2 * x)) (pg.injective d e less less' (omega arith))))
         j hj k hk same;
   }
 
