@@ -30,15 +30,23 @@ fn refuses_words(rt: HostRuntime) {
     }
 }
 
+/// Why a word of so many leaves is refused.
+fn leaves_refused(alloc: Global, letters: usize) -> Result<Option<TreeRefusal>, Fail> {
+    let word = vec![in alloc; b'l'; letters]?;
+    Ok(refusal(alloc, &word))
+}
+
 // The greatest number of letters, and the greatest degree.
 #[test]
 fn knows_the_limits(rt: HostRuntime) -> Result<(), Fail> {
-    let leaves = vec![in rt.alloc(); b'l'; 8_388_608]?;
-    let letters = 8_388_608;
-    assert_eq!(rt; refusal(rt.alloc(), &leaves), Some(TreeRefusal::TooMany { letters }));
-    assert_eq!(rt; refusal(rt.alloc(), &leaves[1..]), Some(TreeRefusal::Degree { place: 0 }));
-    assert_eq!(rt; refusal(rt.alloc(), &leaves[..65]), Some(TreeRefusal::Degree { place: 0 }));
-    assert_eq!(rt; refusal(rt.alloc(), &leaves[..63]), Some(TreeRefusal::Buds { place: 0 }));
+    for (letters, why) in [
+        (63, TreeRefusal::Buds { place: 0 }),
+        (65, TreeRefusal::Degree { place: 0 }),
+        (8_388_607, TreeRefusal::Degree { place: 0 }),
+        (8_388_608, TreeRefusal::TooMany { letters: 8_388_608 }),
+    ] {
+        assert_eq!(rt; leaves_refused(rt.alloc(), letters)?, Some(why));
+    }
     Ok(())
 }
 
