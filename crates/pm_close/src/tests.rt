@@ -6,9 +6,17 @@ use std::test::Fail;
 #[test]
 fn closes_trees(rt: HostRuntime) -> Result<(), Fail> {
     for (word, sigma, levels) in [
-        (b"lbl".as_slice(), [1, 2, 3, 0].as_slice(), [0, 1, 0, 1].as_slice()),
+        (
+            b"lbl".as_slice(),
+            [1, 2, 3, 0].as_slice(),
+            [0, 1, 0, 1].as_slice(),
+        ),
         (b"bll", &[2, 0, 3, 1], &[0, 1, 1, 2]),
-        (b"b(bll)l", &[2, 0, 4, 5, 1, 6, 7, 3], &[0, 1, 1, 2, 2, 1, 2, 3]),
+        (
+            b"b(bll)l",
+            &[2, 0, 4, 5, 1, 6, 7, 3],
+            &[0, 1, 1, 2, 2, 1, 2, 3],
+        ),
     ] {
         assert!(rt; word.len() < 100);
         let tree = read_tree(rt.alloc(), word)?;

@@ -13,7 +13,10 @@ fn refuses_pairs(rt: HostRuntime) {
         (&[(2, 1), (66, 1)], ProfileRefusal::Pair { place: 1 }),
         (&[(2, 1), (4, 1), (4, 1)], ProfileRefusal::Pair { place: 2 }),
         (&[(2, 1), (4, 0)], ProfileRefusal::Pair { place: 1 }),
-        (&[(2, 4_194_305)], ProfileRefusal::TooMany { edges: 4_194_305 }),
+        (
+            &[(2, 4_194_305)],
+            ProfileRefusal::TooMany { edges: 4_194_305 },
+        ),
     ] {
         assert!(rt; pairs.len() < 100);
         assert_eq!(rt; Profile::of_pairs(rt.alloc(), pairs).err(), Some(why));
@@ -65,7 +68,12 @@ fn there_and_back(rt: &impl Abort, rank: u64, word: &[u8]) {
 
 #[test]
 fn ranks_patterns(rt: HostRuntime) {
-    for (half, count) in [(1, 1), (2, 3), (16, 300_540_195), (32, 916_312_070_471_295_267)] {
+    for (half, count) in [
+        (1, 1),
+        (2, 3),
+        (16, 300_540_195),
+        (32, 916_312_070_471_295_267),
+    ] {
         assert!(rt; half > 0 && half <= MAX_DEGREE / 2);
         assert_eq!(rt; pattern_count(half), count);
     }

@@ -60,7 +60,10 @@ fn reads_trees(rt: HostRuntime) -> Result<(), Fail> {
         assert!(rt; word.len() < 100);
         let tree = read_tree(rt.alloc(), word)?;
         assert_eq!(rt; tree.letters(), word);
-        assert_eq!(rt; (tree.edges(), tree.nodes(), tree.leaves()), (edges, nodes, leaves));
+        assert_eq!(rt;
+            (tree.edges(), tree.nodes(), tree.leaves()),
+            (edges, nodes, leaves)
+        );
         let profile = profile_of(rt.alloc(), &tree)?;
         assert_eq!(rt; (profile.pairs(), profile.edges()), (pairs, edges));
     }
@@ -71,7 +74,10 @@ fn reads_trees(rt: HostRuntime) -> Result<(), Fail> {
 fn finds_places(rt: HostRuntime) -> Result<(), Fail> {
     let tree = read_tree(rt.alloc(), b"b(bl(bll))l")?;
     let across = brackets(rt.alloc(), &tree)?;
-    assert_eq!(rt; across.as_slice(), [0, 1, 10, 3, 4, 9, 6, 7, 8, 5, 2, 11].as_slice());
+    assert_eq!(rt;
+        across.as_slice(),
+        [0, 1, 10, 3, 4, 9, 6, 7, 8, 5, 2, 11].as_slice()
+    );
     for (leaf, place) in [(0, 0), (1, 4), (2, 7), (3, 8), (4, 11)] {
         assert!(rt; leaf < tree.leaves() && place as usize <= tree.letters().len());
         assert_eq!(rt; leaf_place(&tree, leaf), place);
