@@ -10,11 +10,11 @@ use Rattle.pm_map.specs.Structure.{Structure, IsStructure}
 use Rattle.pm_map.specs.CycleSize.{IsCycleSize}
 use Rattle.pm_map.specs.FaceDistance.{AreFaceLevels}
 use Rattle.pm_map.proofs.DegreeCounts.{HasSize, has_size, degree_counts_darts}
-use Rattle.pm_open.proofs.Walked.{is_cut, across, IsWalkedInOrder}
+use Rattle.pm_open.proofs.Walked.{is_up, is_cut, across, IsWalkedInOrder}
 use Rattle.pm_perm.proofs.EvenCounts.{even_in_pairs, even_in_cycles}
 use Rattle.pm_perm.proofs.Stretches.{is_between, between-in, between-bounds, count_below-between, stretch-kept}
-use Rattle.pm_open.proofs.EdgeKinds.{cut_twin, across_kept}
-use Rattle.pm_open.proofs.NestedEdges.{across-involution, next-across}
+use Rattle.pm_walk.proofs.Edges.{cut_twin, across_kept}
+use Rattle.pm_walk.proofs.NestedEdges.{across-involution, next-across}
 use Rattle.pm_open.proofs.LevelsAlong.{kept-not_up, level-parity}
 
 -- a test as a number, which tells it
@@ -53,15 +53,15 @@ kept_between s level p is nested h kept = even_in_pairs s.darts s.twin (λ k. is
   kept = λ k hk e.
       (let parts = and_parts (is_between (suc p) (s.twin p) k) (not (is_cut s level k)) e in
       let bounds = between-bounds (suc p) (s.twin p) k parts.0 in
-      let end : across s level p ≡ s.twin p = across_kept s level p kept in
+      let end : across s level p ≡ s.twin p = across_kept s (is_up s level) p kept in
       let inner : s.twin p < s.darts = is.twin_stays p h in
       let k_kept : is_cut s level k ≡ false = not-true (is_cut s level k) parts.1 in
-      let here : across s level k ≡ s.twin k = across_kept s level k k_kept in
+      let here : across s level k ≡ s.twin k = across_kept s (is_up s level) k k_kept in
       let above : p < across s level k = nested.above p k (subst (λ e. e < s.darts) (sym end) inner) (omega (arith, bounds.0)) (subst (λ e. k < e) (sym end) bounds.1) in
       let below : across s level k < across s level p = nested.below p k (subst (λ e. e < s.darts) (sym end) inner) (omega (arith, bounds.0)) (subst (λ e. k < e) (sym end) bounds.1) in
       and_from (is_between (suc p) (s.twin p) (s.twin k)) (not (is_cut s level (s.twin k)))
       (between-in (suc p) (s.twin p) (s.twin k) (subst (λ e. suc p ≤ e) here above) (subst (λ e. e < s.twin p) here (subst (λ e. across s level k < e) end below)))
-      (ap not (cut_twin s level k is hk ∙ k_kept)));
+      (ap not (cut_twin s (is_up s level) k is hk ∙ k_kept)));
 })
 
 -- the two darts of an edge that isn't cut have numbers that are both even or both odd
@@ -71,8 +71,8 @@ kept_even : (s : Structure) (level : ℕ → ℕ) (p : ℕ) → IsStructure s �
 kept_even s level p is walked nested even h kept less =
     let inner : s.twin p < s.darts = is.twin_stays p h in
     let stretch = even_at_vertices s (λ k. is_between (suc p) (suc (s.twin p)) k && true) is even
-    (λ d hd. ap (λ b. b && true) (stretch-kept s.darts s.next (across s level) p (s.twin p) (across-involution s level is) nested (across_kept s level p kept) less inner
-    (λ e he. next-across s level e is walked he) d hd)) in
+    (λ d hd. ap (λ b. b && true) (stretch-kept s.darts s.next (across s level) p (s.twin p) (across-involution s (is_up s level) is) nested (across_kept s (is_up s level) p kept) less inner
+    (λ e he. next-across s (is_up s level) e is walked he) d hd)) in
     let parts = count_below-between (λ _. true) (suc p) (suc (s.twin p)) s.darts (omega arith) (omega arith) in
     plain p (s.twin p) (count_below (λ _. true) (suc p)) (count_below (λ _. true) (suc (s.twin p)))
     (count_below (λ k. is_between (suc p) (suc (s.twin p)) k && true) s.darts)

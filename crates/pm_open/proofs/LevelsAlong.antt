@@ -6,8 +6,8 @@ use Rattle.pm_perm.specs.Pairs.{IsRingBelow}
 use Rattle.pm_perm.proofs.Renumbered.{ring-mod}
 use Rattle.pm_map.specs.Structure.{Structure, IsStructure}
 use Rattle.pm_map.specs.FaceDistance.{AreFaceLevels}
-use Rattle.pm_open.proofs.Walked.{is_cut, IsWalkedInOrder}
-use Rattle.pm_open.proofs.EdgeKinds.{lesser_or_greater, cut_is_up, cut_is_twin_up, across_cut, across_kept}
+use Rattle.pm_open.proofs.Walked.{is_up, is_cut, IsWalkedInOrder}
+use Rattle.pm_walk.proofs.Edges.{lesser_or_greater, cut_is_out, cut_is_twin_out, across_cut, across_kept}
 
 -- the next dart around a vertex has the level of the twin
 pub level-next : (s : Structure) (level : ℕ → ℕ) (d : ℕ) → IsStructure s → AreFaceLevels s level → d < s.darts → level (s.next d) ≡ level (s.twin d)
@@ -18,27 +18,27 @@ pub level-along_cut : (s : Structure) (level : ℕ → ℕ) (d : ℕ) → IsStru
     → is_cut s level d ≡ true → level (suc d) ≡ level (s.twin d)
 level-along_cut s level d is levels walked h cut =
     let ring : IsRingBelow s.darts (λ k. suc k % s.darts) = ring-mod s.darts in
-    let e : suc d ≡ s.next d = sym (ring.next d h) ∙ sym (walked.onward d (omega arith)) ∙ ap s.next (across_cut s level d cut) in
+    let e : suc d ≡ s.next d = sym (ring.next d h) ∙ sym (walked.onward d (omega arith)) ∙ ap s.next (across_cut s (is_up s level) d cut) in
     ap level e ∙ level-next s level d is levels (omega arith)
 
 pub level-along_kept : (s : Structure) (level : ℕ → ℕ) (d : ℕ) → IsStructure s → AreFaceLevels s level → IsWalkedInOrder s level → suc d < s.darts
     → is_cut s level d ≡ false → level (suc d) ≡ level d
 level-along_kept s level d is levels walked h kept =
     let ring : IsRingBelow s.darts (λ k. suc k % s.darts) = ring-mod s.darts in
-    let e : suc d ≡ s.next (s.twin d) = sym (ring.next d h) ∙ sym (walked.onward d (omega arith)) ∙ ap s.next (across_kept s level d kept) in
+    let e : suc d ≡ s.next (s.twin d) = sym (ring.next d h) ∙ sym (walked.onward d (omega arith)) ∙ ap s.next (across_kept s (is_up s level) d kept) in
     ap level e ∙ levels.around d (omega arith)
 
 -- an edge that is cut leads one level up from its lesser dart
 pub cut-up : (s : Structure) (level : ℕ → ℕ) (d : ℕ) → is_cut s level d ≡ true → d < s.twin d → level (s.twin d) ≡ suc (level d)
-cut-up s level d cut less = eqb-true (level (s.twin d)) (suc (level d)) (sym (cut_is_up s level d (omega (arith, less))) ∙ cut)
+cut-up s level d cut less = eqb-true (level (s.twin d)) (suc (level d)) (sym (cut_is_out s (is_up s level) d (omega (arith, less))) ∙ cut)
 
 -- an edge that isn't cut doesn't lead up from its lesser dart
 pub kept-not_up : (s : Structure) (level : ℕ → ℕ) (d : ℕ) → is_cut s level d ≡ false → d < s.twin d → level (s.twin d) ≡ suc (level d) → ⊥
-kept-not_up s level d kept less = eqb-false (level (s.twin d)) (suc (level d)) (sym (cut_is_up s level d (omega (arith, less))) ∙ kept)
+kept-not_up s level d kept less = eqb-false (level (s.twin d)) (suc (level d)) (sym (cut_is_out s (is_up s level) d (omega (arith, less))) ∙ kept)
 
 cut-down : (s : Structure) (level : ℕ → ℕ) (d : ℕ) → s.twin (s.twin d) ≡ d → is_cut s level d ≡ true → s.twin d < d → level d ≡ suc (level (s.twin d))
 cut-down s level d back cut more =
-    ap level (sym back) ∙ eqb-true (level (s.twin (s.twin d))) (suc (level (s.twin d))) (sym (cut_is_twin_up s level d more) ∙ cut)
+    ap level (sym back) ∙ eqb-true (level (s.twin (s.twin d))) (suc (level (s.twin d))) (sym (cut_is_twin_out s (is_up s level) d more) ∙ cut)
 
 -- across an edge that is cut the level changes by one
 pub cut-one : (s : Structure) (level : ℕ → ℕ) (d : ℕ) → IsStructure s → d < s.darts → is_cut s level d ≡ true

@@ -1,4 +1,3 @@
-mod Cutting
 mod EdgeKinds
 mod EvenDegrees
 mod FaceSearch
@@ -6,7 +5,6 @@ mod Folded
 pub mod KeptByOpening
 mod KeptEdges
 mod LevelsAlong
-mod NestedEdges
 mod OneApart
 mod OneOpening
 mod Opened

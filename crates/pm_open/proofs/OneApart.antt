@@ -2,21 +2,15 @@
 use Rattle.std.proofs.Common.{◌≡◌, ℕ, suc, ◌%◌, ◌<◌, ◌⊎◌, inl, inr, sym, ap, ◌∙◌, arith}
 use Rattle.pm_map.specs.Structure.{Structure, IsStructure}
 use Rattle.pm_map.specs.Plane.{IsPlane}
-use Rattle.pm_map.specs.FaceDistance.{IsFaceDistance, AreFaceLevels}
+use Rattle.pm_map.specs.FaceDistance.{AreFaceLevels}
 use Rattle.pm_map.proofs.CarriedStructure.{euler_carried}
 use Rattle.pm_map.proofs.DistanceLemmas.{levels_are_distances}
 use Rattle.pm_map.proofs.DistanceRounds.{each_face_has_distance}
 use Rattle.pm_open.specs.AcrossEdges.{AllDegreesAreEven, DistancesDifferByOne}
 use Rattle.pm_open.proofs.EvenDegrees.{each_degree_carried}
 use Rattle.pm_open.proofs.OpenedWalk.{ChangesByOne, one_apart}
+use Rattle.pm_open.proofs.UniqueWalk.{one_distance}
 use Rattle.pm_open.proofs.Walks.{IsWalked, each_map_is_walked}
-
--- two faces have one distance
-one_distance : (s : Structure) (d e one other : ℕ) → IsFaceDistance s d e one → IsFaceDistance s d e other → one ≡ other
-one_distance s d e one other a b =
-    let x = a.least b.over b.leads in
-    let y = b.least a.over a.leads in
-    omega (arith, a.counted, b.counted)
 
 -- levels change by one across each edge, since they do where the darts are numbered along the walk
 changes : (s : Structure) (level : ℕ → ℕ) → IsStructure s → 0 < s.darts → IsPlane s → AllDegreesAreEven s → AreFaceLevels s level → ChangesByOne s level

@@ -4,11 +4,12 @@ use Rattle.std.specs.List.{count_by}
 use Rattle.pm_perm.specs.Pairs.{IsInvolutionBelow, IsNestedBelow}
 use Rattle.pm_map.specs.Structure.{Structure}
 use Rattle.pm_map.specs.Meeting.{IsVertexFrom}
+use Rattle.pm_walk.specs.Walk.{partner as partner_by}
 use Rattle.pm_open.proofs.Walked.{is_up, is_cut, across}
 
 -- the partner of a dart: on an edge that is cut its twin, on another one the dart itself
 abbrev pub partner : Structure → (ℕ → ℕ) → ℕ → ℕ
-partner s level d = if is_cut s level d then s.twin d else d
+partner s level = partner_by s (is_up s level)
 
 -- The edges that are cut are nested, and so are the others. An edge that is cut leads one level up from its first dart, and
 -- another one leads one level down. Half of the darts at a vertex lead up.

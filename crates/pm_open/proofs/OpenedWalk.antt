@@ -13,8 +13,8 @@ use Rattle.pm_map.proofs.UniqueMeeting.{vertex_begins}
 use Rattle.pm_map.proofs.CarriedMeeting.{AreBelow, vertex_below}
 use Rattle.pm_open.proofs.Walked.{is_up, is_cut, across, IsWalkedInOrder}
 use Rattle.pm_open.proofs.Opened.{partner, IsOpened}
-use Rattle.pm_open.proofs.EdgeKinds.{lesser_or_greater, cut_twin}
-use Rattle.pm_open.proofs.NestedEdges.{across-involution, partner-involution, edges_nested}
+use Rattle.pm_walk.proofs.Edges.{lesser_or_greater, cut_twin}
+use Rattle.pm_walk.proofs.NestedEdges.{across-involution, partner-involution, edges_nested}
 use Rattle.pm_open.proofs.LevelsAlong.{level-next, level-along_cut, level-along_kept, cut-up, cut-one}
 use Rattle.pm_open.proofs.KeptEdges.{kept-down}
 
@@ -93,7 +93,7 @@ changes-by_one s level is down = record {
       | inl less ↦ inr (down d h kept less)
       | inr more ↦
           let back : s.twin (s.twin d) ≡ d = is.twin_back d h in
-          inl (down (s.twin d) (is.twin_stays d h) (cut_twin s level d is h ∙ kept) (omega (arith, back, more)) ∙ ap (λ (e : ℕ). suc (level e)) back)
+          inl (down (s.twin d) (is.twin_stays d h) (cut_twin s (is_up s level) d is h ∙ kept) (omega (arith, back, more)) ∙ ap (λ (e : ℕ). suc (level e)) back)
     ]
   ];
 }
@@ -113,20 +113,20 @@ root-up s level is some levels walked down =
 pub one_apart : (s : Structure) (level : ℕ → ℕ) → IsStructure s → 0 < s.darts → HasEulerTwo s → AreFaceLevels s level → IsWalkedInOrder s level
     → ((d degree : ℕ) → d < s.darts → IsCycleSize s.next d degree → degree % 2 ≡ 0) → ChangesByOne s level
 one_apart s level is some euler levels walked even =
-    let nested : IsNestedBelow s.darts (across s level) × IsNestedBelow s.darts (partner s level) = edges_nested s level is some euler walked in
+    let nested : IsNestedBelow s.darts (across s level) × IsNestedBelow s.darts (partner s level) = edges_nested s (is_up s level) is some euler walked in
     changes-by_one s level is (λ d h kept less. kept-down s level d is levels walked nested.0 even h kept less)
 
 -- what the walk leaves in a plane structure with even degrees
 pub opened : (s : Structure) (level : ℕ → ℕ) → IsStructure s → 0 < s.darts → HasEulerTwo s → AreFaceLevels s level → IsWalkedInOrder s level
     → ((d degree : ℕ) → d < s.darts → IsCycleSize s.next d degree → degree % 2 ≡ 0) → IsOpened s level
 opened s level is some euler levels walked even =
-    let nested : IsNestedBelow s.darts (across s level) × IsNestedBelow s.darts (partner s level) = edges_nested s level is some euler walked in
+    let nested : IsNestedBelow s.darts (across s level) × IsNestedBelow s.darts (partner s level) = edges_nested s (is_up s level) is some euler walked in
     let down : (d : ℕ) → d < s.darts → is_cut s level d ≡ false → d < s.twin d → level d ≡ suc (level (s.twin d)) =
     λ d h kept less. kept-down s level d is levels walked nested.0 even h kept less in
     record {
-      brackets = across-involution s level is;
+      brackets = across-involution s (is_up s level) is;
       brackets_nested = nested.0;
-      pairs = partner-involution s level is;
+      pairs = partner-involution s (is_up s level) is;
       pairs_nested = nested.1;
       root_up = root-up s level is some levels walked down;
       along = λ d h. elim (cases_Bool (is_cut s level d)) [

@@ -13,8 +13,10 @@ use Rattle.pm_open.specs.declared.walking.Fate.{Fate}
 use Rattle.pm_open.specs.declared.walking.Fate.TheVariants.{Unmet, Cut, Kept}
 use Rattle.pm_open.specs.declared.walking.Step.{Step}
 use Rattle.pm_open.specs.steps.Passing.{IsPassed, cuts, keeps, meets_cut, meets_kept}
-use Rattle.pm_open.proofs.Walked.{is_up, first_of, is_cut, across, letter_of}
-use Rattle.pm_open.proofs.EdgeKinds.{first_is_twin, first_is_own, first_is, first_below, first_below_twin, cut_twin, cut_is_up, is_up_yes, is_up_no, across_cut, across_kept}
+use Rattle.pm_open.proofs.Walked.{is_up, is_cut, across, letter_of}
+use Rattle.pm_walk.specs.Walk.{first_of}
+use Rattle.pm_open.proofs.EdgeKinds.{is_up_yes, is_up_no}
+use Rattle.pm_walk.proofs.Edges.{first_is_twin, first_is_own, first_is, first_below, first_below_twin, cut_twin, cut_is_out, across_cut, across_kept}
 use Rattle.pm_open.proofs.PlaceKinds.{letter_of_bud, letter_of_leaf, letter_of_open, letter_of_close}
 use Rattle.pm_open.proofs.UniqueWalk.{up_agrees}
 use Rattle.pm_open.proofs.Walks.{IsWalked}
@@ -75,7 +77,7 @@ module _ (map : RotationSystem) (level : ℕ → ℕ) (structure : IsStructure (
 
     cut_here : place < w.walked.twin place → is_cut w.walked w.walked_level place ≡ is_up (structure_of map) level dart
     cut_here less =
-        cut_is_up w.walked w.walked_level place (omega arith) ∙ ap (is_up w.walked w.walked_level) (sym at)
+        cut_is_out w.walked (is_up w.walked w.walked_level) place (omega arith) ∙ ap (is_up w.walked w.walked_level) (sym at)
         ∙ up_agrees (structure_of map) w.walked level w.walked_level w.rename structure w.carries w.same_level dart inside
 
     met_before : (b : Bool) → slice_index_or fates (dart / 2) Unmet ≡ settled b → (w.walked.twin place < place) × (is_cut w.walked w.walked_level place ≡ b)
@@ -144,11 +146,11 @@ module _ (map : RotationSystem) (level : ℕ → ℕ) (structure : IsStructure (
         elim (cases_Bool (is_cut w.walked w.walked_level place)) [
           | inl cut ↦
               let to : step.next ≡ slice_index map.sigma dart = goes.next ∙ ap (slice_index map.sigma) (cond-true _ dart (twin dart) cut) in
-              ap w.rename to ∙ w.carries.next dart inside ∙ ap w.walked.next (at ∙ sym (across_cut w.walked w.walked_level place cut)) ∙ onward
+              ap w.rename to ∙ w.carries.next dart inside ∙ ap w.walked.next (at ∙ sym (across_cut w.walked (is_up w.walked w.walked_level) place cut)) ∙ onward
           | inr kept ↦
               let to : step.next ≡ slice_index map.sigma (twin dart) = goes.next ∙ ap (slice_index map.sigma) (cond-false _ dart (twin dart) kept) in
               ap w.rename to ∙ w.carries.next (twin dart) (structure.twin_stays dart inside)
-              ∙ ap w.walked.next (sym twin_of_place ∙ sym (across_kept w.walked w.walked_level place kept)) ∙ onward
+              ∙ ap w.walked.next (sym twin_of_place ∙ sym (across_kept w.walked (is_up w.walked w.walked_level) place kept)) ∙ onward
         ]
 
     -- on the edge of this place the dart that is met first is met by now
@@ -160,7 +162,7 @@ module _ (map : RotationSystem) (level : ℕ → ℕ) (structure : IsStructure (
       | inr other ↦
           let there : w.rename d ≡ w.walked.twin place = ap w.rename other ∙ sym twin_of_place in (
             omega (arith, ap (first_of w.walked) there, first_below_twin w.walked (w.walked.twin place), w.structure.twin_back place walked_inside),
-            ap (is_cut w.walked w.walked_level) there ∙ cut_twin w.walked w.walked_level place w.structure walked_inside,
+            ap (is_cut w.walked w.walked_level) there ∙ cut_twin w.walked (is_up w.walked w.walked_level) place w.structure walked_inside,
           )
     ]
 

@@ -4,12 +4,12 @@ use Rattle.std.specs.Prelude.{slice_index}
 use Rattle.std.proofs.lemmas.Bool.{cases_lt, cases_eq, cases_Bool, lt-ltb, le-ltb}
 use Rattle.pm_trees.specs.declared.letters.TheConstants.{LEAF, BUD, OPEN, CLOSE}
 use Rattle.pm_map.specs.Structure.{Structure, IsStructure}
-use Rattle.pm_open.proofs.Walked.{is_cut, letter_of, IsSpelled}
-use Rattle.pm_open.proofs.EdgeKinds.{cut_is_up}
+use Rattle.pm_open.proofs.Walked.{is_up, is_cut, letter_of, IsSpelled}
+use Rattle.pm_walk.proofs.Edges.{cut_is_out}
 
 -- the edge of the root is cut
 pub root_cut : (s : Structure) (level : ℕ → ℕ) → level 0 ≡ 0 → level (s.twin 0) ≡ 1 → is_cut s level 0 ≡ true
-root_cut s level low up = cut_is_up s level 0 (omega arith) ∙ eq-eqb (level (s.twin 0)) (suc (level 0)) (omega arith)
+root_cut s level low up = cut_is_out s (is_up s level) 0 (omega arith) ∙ eq-eqb (level (s.twin 0)) (suc (level 0)) (omega arith)
 
 letter_of_root : (s : Structure) (level : ℕ → ℕ) (d : ℕ) → d ≡ 0 → letter_of s level d ≡ LEAF
 letter_of_root s level d e = rw (eq-eqb d 0 e) refl

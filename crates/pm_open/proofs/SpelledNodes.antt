@@ -19,7 +19,7 @@ use Rattle.pm_close.proofs.NodeVertices.{node_vertices}
 use Rattle.pm_close.proofs.Heads.{vertex_steps, vertex_size, vertex_length, root_head, head_is, one_head}
 use Rattle.pm_open.proofs.EvenDegrees.{HasEvenDegrees}
 use Rattle.pm_open.proofs.Walked.{is_up, is_cut}
-use Rattle.pm_open.proofs.EdgeKinds.{cut_twin, cut_is_up}
+use Rattle.pm_walk.proofs.Edges.{cut_twin, cut_is_out}
 use Rattle.pm_open.proofs.PlaceKinds.{a_plant, a_bud, a_leaf, an_open, a_close}
 use Rattle.pm_open.proofs.SpelledPairs.{IsReadAlong, kind_of, in_order}
 
@@ -63,13 +63,13 @@ module _ (s : Structure) (level : ℕ → ℕ) (word : List ℕ) (read : IsReadA
 
   -- which darts are up: the root, buds and closing brackets
   up_here : (d : ℕ) → d < s.darts → d < s.twin d → is_up s level d ≡ is_cut s level d
-  up_here d l less = sym (cut_is_up s level d (omega arith))
+  up_here d l less = sym (cut_is_out s (is_up s level) d (omega arith))
 
   down_leaf : (d : ℕ) → d < s.darts → is_cut s level d ≡ true → s.twin d < d → is_up s level d ≡ false
   down_leaf d l cut less =
       let back = read.structure.twin_back d l in
-      let lesser = cut_is_up s level (s.twin d) (omega arith) in
-      let up : is_up s level (s.twin d) ≡ true = sym lesser ∙ cut_twin s level d read.structure l ∙ cut in
+      let lesser = cut_is_out s (is_up s level) (s.twin d) (omega arith) in
+      let up : is_up s level (s.twin d) ≡ true = sym lesser ∙ cut_twin s (is_up s level) d read.structure l ∙ cut in
       let high : level (s.twin (s.twin d)) ≡ suc (level (s.twin d)) = eqb-true (level (s.twin (s.twin d))) (suc (level (s.twin d))) up in
       let same = ap level back in
       ne_eqb (level (s.twin d)) (suc (level d)) (λ e. omega arith)
@@ -77,7 +77,7 @@ module _ (s : Structure) (level : ℕ → ℕ) (word : List ℕ) (read : IsReadA
   up_close : (d : ℕ) → d < s.darts → is_cut s level d ≡ false → s.twin d < d → is_up s level d ≡ true
   up_close d l kept less =
       let back = read.structure.twin_back d l in
-      let low = read.opened.kept_down (s.twin d) (read.structure.twin_stays d l) (cut_twin s level d read.structure l ∙ kept) (omega arith) in
+      let low = read.opened.kept_down (s.twin d) (read.structure.twin_stays d l) (cut_twin s (is_up s level) d read.structure l ∙ kept) (omega arith) in
       let same = ap level back in
       eq-eqb (level (s.twin d)) (suc (level d)) (omega arith)
 
@@ -86,7 +86,7 @@ module _ (s : Structure) (level : ℕ → ℕ) (word : List ℕ) (read : IsReadA
   head_up node head h =
       let inside = head_within node head h in
       elim h [
-        | inl root ↦ subst (λ (k : ℕ). is_up s level k ≡ true) (sym root.1) (sym (cut_is_up s level 0 (omega arith)) ∙ read.root_cut)
+        | inl root ↦ subst (λ (k : ℕ). is_up s level k ≡ true) (sym root.1) (sym (cut_is_out s (is_up s level) 0 (omega arith)) ∙ read.root_cut)
         | inr pair ↦ elim (kind_of s level (contour word) read head inside) [
           | a_plant _ _ e ↦ absurd (let c = pair.closes in omega arith)
           | a_bud _ _ _ e ↦ absurd (let c = pair.closes in omega arith)

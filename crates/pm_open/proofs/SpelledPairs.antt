@@ -15,9 +15,9 @@ use Rattle.pm_match.proofs.Meeting.{IsMeeting, pair_first, pair_unique}
 use Rattle.pm_map.specs.Structure.{Structure, IsStructure}
 use Rattle.pm_close.specs.Closure.{IsClosure, IsAcross, from_open, from_close, from_letter, AreTwins, edge_down, edge_up, pair_bud, pair_leaf, free_leaves}
 use Rattle.pm_close.proofs.TwinLemmas.{two_letters, by_letter, twins_back}
-use Rattle.pm_open.proofs.Walked.{is_cut, across, IsWalkedInOrder, IsSpelled}
+use Rattle.pm_open.proofs.Walked.{is_up, is_cut, across, IsWalkedInOrder, IsSpelled}
 use Rattle.pm_open.proofs.Opened.{partner, IsOpened}
-use Rattle.pm_open.proofs.EdgeKinds.{cut_twin, across_cut, across_kept, partner_cut}
+use Rattle.pm_walk.proofs.Edges.{cut_twin, across_cut, across_kept, partner_cut}
 use Rattle.pm_open.proofs.PlaceKinds.{IsKind, a_plant, a_bud, a_leaf, an_open, a_close, kind}
 use Rattle.pm_open.proofs.Folded.{IsFolded, folded_below, folded_equal}
 
@@ -54,7 +54,7 @@ module _ (s : Structure) (level : ℕ → ℕ) (places : List ℕ) (read : IsRea
   -- the letter of the twin, by that of the dart
   pub twin_closes : (d : ℕ) → d < s.darts → is_cut s level d ≡ false → d < s.twin d → slice_index places (s.twin d) ≡ CLOSE
   twin_closes d l kept less =
-      let same = cut_twin s level d read.structure l in
+      let same = cut_twin s (is_up s level) d read.structure l in
       let back = read.structure.twin_back d l in
       elim (kind_of (s.twin d) (read.structure.twin_stays d l)) [
         | a_plant _ cut _ ↦ both_ways (same ∙ kept) cut
@@ -66,7 +66,7 @@ module _ (s : Structure) (level : ℕ → ℕ) (places : List ℕ) (read : IsRea
 
   pub twin_opens : (d : ℕ) → d < s.darts → is_cut s level d ≡ false → s.twin d < d → slice_index places (s.twin d) ≡ OPEN
   twin_opens d l kept less =
-      let same = cut_twin s level d read.structure l in
+      let same = cut_twin s (is_up s level) d read.structure l in
       let back = read.structure.twin_back d l in
       elim (kind_of (s.twin d) (read.structure.twin_stays d l)) [
         | a_plant _ cut _ ↦ both_ways (same ∙ kept) cut
@@ -78,7 +78,7 @@ module _ (s : Structure) (level : ℕ → ℕ) (places : List ℕ) (read : IsRea
 
   pub twin_is_leaf : (d : ℕ) → d < s.darts → is_cut s level d ≡ true → d < s.twin d → slice_index places (s.twin d) ≡ LEAF
   twin_is_leaf d l cut less =
-      let same = cut_twin s level d read.structure l in
+      let same = cut_twin s (is_up s level) d read.structure l in
       let back = read.structure.twin_back d l in
       elim (kind_of (s.twin d) (read.structure.twin_stays d l)) [
         | a_plant first _ _ ↦ absurd (omega arith)
@@ -90,7 +90,7 @@ module _ (s : Structure) (level : ℕ → ℕ) (places : List ℕ) (read : IsRea
 
   pub twin_is_bud : (d : ℕ) → d < s.darts → is_cut s level d ≡ true → 0 < s.twin d → s.twin d < d → slice_index places (s.twin d) ≡ BUD
   twin_is_bud d l cut some less =
-      let same = cut_twin s level d read.structure l in
+      let same = cut_twin s (is_up s level) d read.structure l in
       let back = read.structure.twin_back d l in
       elim (kind_of (s.twin d) (read.structure.twin_stays d l)) [
         | a_plant first _ _ ↦ absurd (omega arith)
@@ -107,7 +107,7 @@ module _ (s : Structure) (level : ℕ → ℕ) (places : List ℕ) (read : IsRea
       | a_bud _ _ _ f ↦ two_letters places k BUD OPEN (omega arith) f e
       | a_leaf _ _ _ f ↦ two_letters places k LEAF OPEN (omega arith) f e
       | an_open _ kept less _ ↦
-          let over = across_kept s level k kept in
+          let over = across_kept s (is_up s level) k kept in
           (subst (λ (j : ℕ). k < j) (sym over) less, closed.high k low high, ap (slice_index places) over ∙ twin_closes k (omega arith) kept less)
       | a_close _ _ _ f ↦ two_letters places k CLOSE OPEN (omega arith) f e
     ];
@@ -117,7 +117,7 @@ module _ (s : Structure) (level : ℕ → ℕ) (places : List ℕ) (read : IsRea
       | a_leaf _ _ _ f ↦ two_letters places k LEAF CLOSE (omega arith) f e
       | an_open _ _ _ f ↦ two_letters places k OPEN CLOSE (omega arith) f e
       | a_close _ kept less _ ↦
-          let over = across_kept s level k kept in
+          let over = across_kept s (is_up s level) k kept in
           (subst (λ (j : ℕ). j < k) (sym over) less, closed.low k low high, ap (slice_index places) over ∙ twin_opens k (omega arith) kept less)
     ];
     twice = λ k low high. read.opened.brackets.twice k (omega arith);
@@ -128,7 +128,7 @@ module _ (s : Structure) (level : ℕ → ℕ) (places : List ℕ) (read : IsRea
     of_first = λ k low high e. elim (kind_of k (omega arith)) [
       | a_plant _ _ f ↦ two_letters places k LEAF BUD (omega arith) f e
       | a_bud _ cut less _ ↦
-          let over = partner_cut s level k cut in
+          let over = partner_cut s (is_up s level) k cut in
           (subst (λ (j : ℕ). k < j) (sym over) less, closed.high k low high, ap (slice_index places) over ∙ twin_is_leaf k (omega arith) cut less)
       | a_leaf _ _ _ f ↦ two_letters places k LEAF BUD (omega arith) f e
       | an_open _ _ _ f ↦ two_letters places k OPEN BUD (omega arith) f e
@@ -138,7 +138,7 @@ module _ (s : Structure) (level : ℕ → ℕ) (places : List ℕ) (read : IsRea
       | a_plant first _ _ ↦ absurd (omega arith)
       | a_bud _ _ _ f ↦ two_letters places k BUD LEAF (omega arith) f e
       | a_leaf _ cut less _ ↦
-          let over = partner_cut s level k cut in
+          let over = partner_cut s (is_up s level) k cut in
           let start = closed.low k low high in
           let met : a ≤ s.twin k = subst (λ (j : ℕ). a ≤ j) over start in
           (subst (λ (j : ℕ). j < k) (sym over) less, start, ap (slice_index places) over ∙ twin_is_bud k (omega arith) cut (omega arith) less)
@@ -151,7 +151,7 @@ module _ (s : Structure) (level : ℕ → ℕ) (places : List ℕ) (read : IsRea
   -- between the two darts of an edge that is kept the brackets match
   closed_by_bracket : (d : ℕ) → d < s.darts → is_cut s level d ≡ false → d < s.twin d → IsClosedIn (suc d) (s.twin d) (across s level)
   closed_by_bracket d l kept less =
-      let over = across_kept s level d kept in
+      let over = across_kept s (is_up s level) d kept in
       let inside : across s level d < s.darts = read.opened.brackets.stays d l in
       record {
         low = λ k low high. read.opened.brackets_nested.above d k inside low (subst (λ (j : ℕ). k < j) (sym over) high);
@@ -173,7 +173,7 @@ module _ (s : Structure) (level : ℕ → ℕ) (places : List ℕ) (read : IsRea
   -- between the two darts of an edge that is cut, and isn't the root's, each bud has its leaf
   closed_by_pair : (d : ℕ) → d < s.darts → is_cut s level d ≡ true → d < s.twin d → IsClosedIn (suc d) (s.twin d) (partner s level)
   closed_by_pair d l cut less =
-      let over = partner_cut s level d cut in
+      let over = partner_cut s (is_up s level) d cut in
       let inside : partner s level d < s.darts = read.opened.pairs.stays d l in
       record {
         low = λ k low high. read.opened.pairs_nested.above d k inside low (subst (λ (j : ℕ). k < j) (sym over) high);
@@ -256,7 +256,7 @@ module _ (s : Structure) (level : ℕ → ℕ) (places : List ℕ) (read : IsRea
   -- twins are twins by the letters
   pub are_twins : (d : ℕ) → d < s.darts → AreTwins places d (s.twin d)
   are_twins d l =
-      let same = cut_twin s level d read.structure l in
+      let same = cut_twin s (is_up s level) d read.structure l in
       let back = read.structure.twin_back d l in
       let end = read.structure.twin_stays d l in
       elim (kind_of d l) [
@@ -283,7 +283,7 @@ module _ (s : Structure) (level : ℕ → ℕ) (places : List ℕ) (read : IsRea
         | an_open _ kept _ e ↦
             let pair = (by_letter places p (s.twin p) twins).at_open e in
             elim a [
-              | from_open h ↦ one_closer places p q (s.twin p) h pair ∙ sym (across_kept s level p kept)
+              | from_open h ↦ one_closer places p q (s.twin p) h pair ∙ sym (across_kept s (is_up s level) p kept)
               | from_close h ↦ two_letters places p OPEN CLOSE (omega arith) e h.closes
               | from_letter not_open _ _ ↦ absurd (not_open e)
             ]
@@ -291,7 +291,7 @@ module _ (s : Structure) (level : ℕ → ℕ) (places : List ℕ) (read : IsRea
             let pair = (by_letter places p (s.twin p) twins).at_close e in
             elim a [
               | from_open h ↦ two_letters places p OPEN CLOSE (omega arith) h.opens e
-              | from_close h ↦ one_opener places q p (s.twin p) h pair ∙ sym (across_kept s level p kept)
+              | from_close h ↦ one_opener places q p (s.twin p) h pair ∙ sym (across_kept s (is_up s level) p kept)
               | from_letter _ not_close _ ↦ absurd (not_close e)
             ]
       ] where
@@ -299,7 +299,7 @@ module _ (s : Structure) (level : ℕ → ℕ) (places : List ℕ) (read : IsRea
         itself p q cut a no_open no_close = elim a [
           | from_open h ↦ absurd (no_open h.opens)
           | from_close h ↦ absurd (no_close h.closes)
-          | from_letter _ _ e ↦ sym e ∙ sym (across_cut s level p cut)
+          | from_letter _ _ e ↦ sym e ∙ sym (across_cut s (is_up s level) p cut)
         ]
 
   -- the structure is the closure
@@ -323,7 +323,7 @@ module _ (s : Structure) (level : ℕ → ℕ) (places : List ℕ) (read : IsRea
   whole_closed : IsClosedIn 1 s.darts (across s level)
   whole_closed = record {
     low = λ k low high. elim (cases_eq (across s level k) 0) [
-      | inl e ↦ absurd (low_is_none k low (sym (read.opened.brackets.twice k high) ∙ ap (across s level) e ∙ across_cut s level 0 read.root_cut))
+      | inl e ↦ absurd (low_is_none k low (sym (read.opened.brackets.twice k high) ∙ ap (across s level) e ∙ across_cut s (is_up s level) 0 read.root_cut))
       | inr some ↦ not_zero (across s level k) some
     ];
     high = λ k low high. read.opened.brackets.stays k high;

@@ -9,11 +9,12 @@ use Rattle.pm_map.specs.Structure.{Structure, IsStructure, CarriesTo}
 use Rattle.pm_map.specs.FaceDistance.{IsFaceDistance, AreFaceLevels}
 use Rattle.pm_map.proofs.DistanceLemmas.{levels_are_distances, distances_are_carried}
 use Rattle.pm_close.proofs.ClosureLemmas.{succ_inside}
-use Rattle.pm_open.proofs.Walked.{is_up, first_of, is_cut, across, letter_of, IsWalkedInOrder, IsSpelled}
-use Rattle.pm_open.proofs.EdgeKinds.{first_is_twin, first_is_own}
+use Rattle.pm_open.proofs.Walked.{is_up, is_cut, across, letter_of, IsWalkedInOrder, IsSpelled}
+use Rattle.pm_walk.specs.Walk.{first_of}
+use Rattle.pm_walk.proofs.Edges.{first_is_twin, first_is_own}
 
 -- the distance to a face is one number
-one_distance : (s : Structure) (d e a b : ℕ) → IsFaceDistance s d e a → IsFaceDistance s d e b → a ≡ b
+pub one_distance : (s : Structure) (d e a b : ℕ) → IsFaceDistance s d e a → IsFaceDistance s d e b → a ≡ b
 one_distance s d e a b one other = omega (arith, one.least other.over other.leads, other.least one.over one.leads, one.counted, other.counted)
 
 -- levels of the faces are kept by a renumbering

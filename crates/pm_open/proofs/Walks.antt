@@ -11,8 +11,9 @@ use Rattle.pm_map.specs.Structure.{Structure, IsStructure, CarriesTo}
 use Rattle.pm_map.specs.FaceDistance.{AreFaceLevels}
 use Rattle.pm_map.proofs.CarriedStructure.{structure_carried}
 use Rattle.pm_map.proofs.DistanceLemmas.{levels_carried}
-use Rattle.pm_open.proofs.Walked.{is_up, first_of, is_cut, across, IsWalkedInOrder}
-use Rattle.pm_open.proofs.Cutting.{HasCut, has_cut, across_by, step_by, dart_after, step_by-permutes}
+use Rattle.pm_open.proofs.Walked.{is_up, is_cut, across, IsWalkedInOrder}
+use Rattle.pm_walk.specs.Walk.{first_of}
+use Rattle.pm_walk.proofs.Cutting.{HasCut, has_cut, across_by, step_by, dart_after, step_by-permutes}
 use Rattle.pm_open.proofs.WholeWalk.{IsDecidedWalk, met_reached, all_met}
 
 -- the walk that meets every dart gives each a place
@@ -177,5 +178,5 @@ numbered-walked s level cut w =
 -- each structure with a dart and levels is walked
 pub each_map_is_walked : (s : Structure) (level : ℕ → ℕ) → IsStructure s → 0 < s.darts → AreFaceLevels s level → IsWalked s level
 each_map_is_walked s level is some levels =
-    let c : HasCut s level s.darts = has_cut s level is some s.darts in
+    let c : HasCut s (is_up s level) s.darts = has_cut s (is_up s level) is some s.darts in
     numbered-walked s level c.cut (record { structure = is; some = some; levels = levels; cutting = c.cutting; decided = c.decided })

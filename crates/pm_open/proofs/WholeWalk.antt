@@ -9,7 +9,7 @@ use Rattle.pm_map.specs.Structure.{Structure, IsStructure, face_next}
 use Rattle.pm_map.specs.FaceDistance.{AreInOneFace, AreFaceLevels}
 use Rattle.pm_map.proofs.DistanceLemmas.{face_back, face_below, levels-around}
 use Rattle.pm_open.proofs.Walked.{is_up}
-use Rattle.pm_open.proofs.Cutting.{IsCutting, IsDecided, step_by, dart_after, step_by-cut, step_by-kept, step_by-permutes}
+use Rattle.pm_walk.proofs.Cutting.{IsCutting, IsDecided, step_by, dart_after, step_by-cut, step_by-kept, step_by-permutes}
 
 -- numbers below a bound have a greatest value
 greatest : (f : ℕ → ℕ) (n : ℕ) → (top : ℕ) × ((k : ℕ) → k < n → f k ≤ top)
@@ -30,7 +30,7 @@ pub record IsDecidedWalk (s : Structure) (level : ℕ → ℕ) (cut : ℕ → Bo
   pub some : 0 < s.darts
   pub levels : AreFaceLevels s level
   pub cutting : IsCutting s cut
-  pub decided : IsDecided s level cut s.darts
+  pub decided : IsDecided s (is_up s level) cut s.darts
 
 -- the walk meets a dart
 pub record IsMet (s : Structure) (cut : ℕ → Bool) (d : ℕ) : Type 0 where

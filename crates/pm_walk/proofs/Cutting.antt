@@ -9,7 +9,6 @@ use Rattle.pm_perm.proofs.PartPairs.{involution-permutes}
 use Rattle.pm_perm.proofs.Renumbered.{product-permutes}
 use Rattle.pm_perm.proofs.Repeats.{repeated-inside}
 use Rattle.pm_map.specs.Structure.{Structure, IsStructure}
-use Rattle.pm_open.proofs.Walked.{is_up}
 
 -- edges that are cut, told by a test of darts that says the same of twins
 pub record IsCutting (s : Structure) (cut : ℕ → Bool) : Type 0 where
@@ -53,52 +52,51 @@ step_by-permutes s cut is cutting =
     product-permutes s.darts (step_by s cut) s.next (across_by s cut) is.rotation
     (involution-permutes s.darts (across_by s cut) (across_by-involutes s cut is cutting)) (record { value = λ k h. refl })
 
--- Where the walk meets an edge first, within so many steps, the edge is cut exactly where the face beyond is one further
--- from the root's face.
-pub record IsDecided (s : Structure) (level : ℕ → ℕ) (cut : ℕ → Bool) (count : ℕ) : Type 0 where
+-- where the walk meets an edge first, within so many steps, the edge is cut exactly where the dart passes
+pub record IsDecided (s : Structure) (out : ℕ → Bool) (cut : ℕ → Bool) (count : ℕ) : Type 0 where
   pub decided : (j : ℕ) → j < count → ((i : ℕ) → i < j → dart_after s cut i ≢ s.twin (dart_after s cut j))
-      → cut (dart_after s cut j) ≡ is_up s level (dart_after s cut j)
+      → cut (dart_after s cut j) ≡ out (dart_after s cut j)
 
-decided_more : (s : Structure) (level : ℕ → ℕ) (cut : ℕ → Bool) (count : ℕ) → IsDecided s level cut count
-    → (((i : ℕ) → i < count → dart_after s cut i ≢ s.twin (dart_after s cut count)) → cut (dart_after s cut count) ≡ is_up s level (dart_after s cut count))
-    → IsDecided s level cut (suc count)
-decided_more s level cut count before here = record {
+decided_more : (s : Structure) (out : ℕ → Bool) (cut : ℕ → Bool) (count : ℕ) → IsDecided s out cut count
+    → (((i : ℕ) → i < count → dart_after s cut i ≢ s.twin (dart_after s cut count)) → cut (dart_after s cut count) ≡ out (dart_after s cut count))
+    → IsDecided s out cut (suc count)
+decided_more s out cut count before here = record {
   decided = λ j h. elim (cases_eq j count) [
     | inl same ↦
-        subst (λ k. ((i : ℕ) → i < k → dart_after s cut i ≢ s.twin (dart_after s cut k)) → cut (dart_after s cut k) ≡ is_up s level (dart_after s cut k)) (sym same) here
+        subst (λ k. ((i : ℕ) → i < k → dart_after s cut i ≢ s.twin (dart_after s cut k)) → cut (dart_after s cut k) ≡ out (dart_after s cut k)) (sym same) here
     | inr differs ↦ before.decided j (omega (arith, h, differs))
   ];
 }
 
 -- the edge of one dart decided anew
-recut : Structure → (ℕ → ℕ) → (ℕ → Bool) → ℕ → ℕ → Bool
-recut s level cut dart d = cond (eqb d dart || eqb d (s.twin dart)) (is_up s level dart) (cut d)
+recut : Structure → (ℕ → Bool) → (ℕ → Bool) → ℕ → ℕ → Bool
+recut s out cut dart d = cond (eqb d dart || eqb d (s.twin dart)) (out dart) (cut d)
 
-recut-here : (s : Structure) (level : ℕ → ℕ) (cut : ℕ → Bool) (dart d : ℕ) → d ≡ dart → recut s level cut dart d ≡ is_up s level dart
+recut-here : (s : Structure) (out : ℕ → Bool) (cut : ℕ → Bool) (dart d : ℕ) → d ≡ dart → recut s out cut dart d ≡ out dart
 unfolding recut
-recut-here s level cut dart d same =
-    cond-true (eqb d dart || eqb d (s.twin dart)) (is_up s level dart) (cut d) (or_left (eqb d dart) (eqb d (s.twin dart)) (eq-eqb d dart same))
+recut-here s out cut dart d same =
+    cond-true (eqb d dart || eqb d (s.twin dart)) (out dart) (cut d) (or_left (eqb d dart) (eqb d (s.twin dart)) (eq-eqb d dart same))
 
-recut-twin : (s : Structure) (level : ℕ → ℕ) (cut : ℕ → Bool) (dart d : ℕ) → d ≡ s.twin dart → recut s level cut dart d ≡ is_up s level dart
+recut-twin : (s : Structure) (out : ℕ → Bool) (cut : ℕ → Bool) (dart d : ℕ) → d ≡ s.twin dart → recut s out cut dart d ≡ out dart
 unfolding recut
-recut-twin s level cut dart d same =
-    cond-true (eqb d dart || eqb d (s.twin dart)) (is_up s level dart) (cut d) (or_right (eqb d dart) (eqb d (s.twin dart)) (eq-eqb d (s.twin dart) same))
+recut-twin s out cut dart d same =
+    cond-true (eqb d dart || eqb d (s.twin dart)) (out dart) (cut d) (or_right (eqb d dart) (eqb d (s.twin dart)) (eq-eqb d (s.twin dart) same))
 
-recut-other : (s : Structure) (level : ℕ → ℕ) (cut : ℕ → Bool) (dart d : ℕ) → d ≢ dart → d ≢ s.twin dart → recut s level cut dart d ≡ cut d
+recut-other : (s : Structure) (out : ℕ → Bool) (cut : ℕ → Bool) (dart d : ℕ) → d ≢ dart → d ≢ s.twin dart → recut s out cut dart d ≡ cut d
 unfolding recut
-recut-other s level cut dart d one two =
-    cond-false (eqb d dart || eqb d (s.twin dart)) (is_up s level dart) (cut d)
+recut-other s out cut dart d one two =
+    cond-false (eqb d dart || eqb d (s.twin dart)) (out dart) (cut d)
     (or_from (eqb d dart) (eqb d (s.twin dart)) (ne_eqb d dart one) (ne_eqb d (s.twin dart) two))
 
-recut-cuts : (s : Structure) (level : ℕ → ℕ) (cut : ℕ → Bool) (dart : ℕ) → IsStructure s → dart < s.darts → IsCutting s cut → IsCutting s (recut s level cut dart)
-recut-cuts s level cut dart is below cutting = record {
+recut-cuts : (s : Structure) (out : ℕ → Bool) (cut : ℕ → Bool) (dart : ℕ) → IsStructure s → dart < s.darts → IsCutting s cut → IsCutting s (recut s out cut dart)
+recut-cuts s out cut dart is below cutting = record {
   both = λ d h. elim (cases_eq d dart) [
-    | inl same ↦ recut-twin s level cut dart (s.twin d) (ap s.twin same) ∙ sym (recut-here s level cut dart d same)
+    | inl same ↦ recut-twin s out cut dart (s.twin d) (ap s.twin same) ∙ sym (recut-here s out cut dart d same)
     | inr one ↦ elim (cases_eq d (s.twin dart)) [
-      | inl same ↦ recut-here s level cut dart (s.twin d) (ap s.twin same ∙ is.twin_back dart below) ∙ sym (recut-twin s level cut dart d same)
+      | inl same ↦ recut-here s out cut dart (s.twin d) (ap s.twin same ∙ is.twin_back dart below) ∙ sym (recut-twin s out cut dart d same)
       | inr two ↦
-          recut-other s level cut dart (s.twin d) (λ e. two (sym (is.twin_back d h) ∙ ap s.twin e)) (λ e. one (sym (is.twin_back d h) ∙ ap s.twin e ∙ is.twin_back dart below))
-          ∙ cutting.both d h ∙ sym (recut-other s level cut dart d one two)
+          recut-other s out cut dart (s.twin d) (λ e. two (sym (is.twin_back d h) ∙ ap s.twin e)) (λ e. one (sym (is.twin_back d h) ∙ ap s.twin e ∙ is.twin_back dart below))
+          ∙ cutting.both d h ∙ sym (recut-other s out cut dart d one two)
     ]
   ];
 }
@@ -112,33 +110,33 @@ dart_after-same s cut other (suc steps) same =
     ap (step_by s other) before ∙ ap (λ b. s.next (cond b x (s.twin x))) (same steps (omega arith))
 
 -- a choice of the edges that is decided within so many steps
-pub record HasCut (s : Structure) (level : ℕ → ℕ) (count : ℕ) : Type 0 where
+pub record HasCut (s : Structure) (out : ℕ → Bool) (count : ℕ) : Type 0 where
   pub cut : ℕ → Bool
   pub cutting : IsCutting s cut
-  pub decided : IsDecided s level cut count
+  pub decided : IsDecided s out cut count
 
 -- an edge that the walk meets first after these steps is decided there
-decided_anew : (s : Structure) (level : ℕ → ℕ) (count : ℕ) (c : HasCut s level count) → IsStructure s → dart_after s c.cut count < s.darts
+decided_anew : (s : Structure) (out : ℕ → Bool) (count : ℕ) (c : HasCut s out count) → IsStructure s → dart_after s c.cut count < s.darts
     → ((i : ℕ) → i < count → dart_after s c.cut i ≢ dart_after s c.cut count) → ((i : ℕ) → i < count → dart_after s c.cut i ≢ s.twin (dart_after s c.cut count))
-    → HasCut s level (suc count)
-decided_anew s level count c is below new apart =
+    → HasCut s out (suc count)
+decided_anew s out count c is below new apart =
     let dart : ℕ = dart_after s c.cut count in
-    let other : ℕ → Bool = recut s level c.cut dart in
-    let alike : (i : ℕ) → i < count → recut s level c.cut dart (dart_after s c.cut i) ≡ c.cut (dart_after s c.cut i) = λ i h.
-    recut-other s level c.cut dart (dart_after s c.cut i) (new i h) (apart i h) in
-    let same : (i : ℕ) → i < suc count → dart_after s (recut s level c.cut dart) i ≡ dart_after s c.cut i = λ i h.
-    dart_after-same s c.cut (recut s level c.cut dart) i (λ j less. alike j (omega arith)) in
+    let other : ℕ → Bool = recut s out c.cut dart in
+    let alike : (i : ℕ) → i < count → recut s out c.cut dart (dart_after s c.cut i) ≡ c.cut (dart_after s c.cut i) = λ i h.
+    recut-other s out c.cut dart (dart_after s c.cut i) (new i h) (apart i h) in
+    let same : (i : ℕ) → i < suc count → dart_after s (recut s out c.cut dart) i ≡ dart_after s c.cut i = λ i h.
+    dart_after-same s c.cut (recut s out c.cut dart) i (λ j less. alike j (omega arith)) in
     record {
       cut = other;
-      cutting = recut-cuts s level c.cut dart is below c.cutting;
+      cutting = recut-cuts s out c.cut dart is below c.cutting;
       decided = record {
         decided = λ j h fresh.
-            let there : dart_after s (recut s level c.cut dart) j ≡ dart_after s c.cut j = same j h in
-            subst (λ x. recut s level c.cut dart x ≡ is_up s level x) (sym there)
+            let there : dart_after s (recut s out c.cut dart) j ≡ dart_after s c.cut j = same j h in
+            subst (λ x. recut s out c.cut dart x ≡ out x) (sym there)
             (elim (cases_eq j count) [
               | inl last ↦
                   let at : dart_after s c.cut j ≡ dart = ap (dart_after s c.cut) last in
-                  recut-here s level c.cut dart (dart_after s c.cut j) at ∙ ap (is_up s level) (sym at)
+                  recut-here s out c.cut dart (dart_after s c.cut j) at ∙ ap out (sym at)
               | inr differs ↦
                   let less : j < count = omega (arith, h, differs) in
                   alike j less ∙ c.decided.decided j less (λ i earlier e. fresh i earlier (same i (omega arith) ∙ e ∙ ap s.twin (sym there)))
@@ -146,31 +144,31 @@ decided_anew s level count c is below new apart =
       };
     }
 
-pub has_cut : (s : Structure) (level : ℕ → ℕ) → IsStructure s → 0 < s.darts → (count : ℕ) → HasCut s level count
-has_cut s level is some zero = record {
+pub has_cut : (s : Structure) (out : ℕ → Bool) → IsStructure s → 0 < s.darts → (count : ℕ) → HasCut s out count
+has_cut s out is some zero = record {
   cut = λ d. true;
   cutting = record { both = λ d h. refl };
   decided = record { decided = λ j h. absurd (omega arith) };
 }
-has_cut s level is some (suc count) =
-    let c : HasCut s level count = has_cut s level is some count in
+has_cut s out is some (suc count) =
+    let c : HasCut s out count = has_cut s out is some count in
     let dart : ℕ = dart_after s c.cut count in
     let below : dart < s.darts = repeated-inside (step_by s c.cut) s.darts (step_by-permutes s c.cut is c.cutting) count s.root (is.root_stays some) in
     elim (reached_or_not (dart_after s c.cut) count dart) [
       | inl again ↦ record {
         cut = c.cut;
         cutting = c.cutting;
-        decided = decided_more s level c.cut count c.decided
+        decided = decided_more s out c.cut count c.decided
             (λ fresh.
             (let less : again.from < count = again.below in
-            subst (λ x. c.cut x ≡ is_up s level x) again.value (c.decided.decided again.from less (λ i earlier e. fresh i (omega arith) (e ∙ ap s.twin again.value)))));
+            subst (λ x. c.cut x ≡ out x) again.value (c.decided.decided again.from less (λ i earlier e. fresh i (omega arith) (e ∙ ap s.twin again.value)))));
       }
       | inr new ↦ elim (reached_or_not (dart_after s c.cut) count (s.twin dart)) [
         | inl met ↦ record {
           cut = c.cut;
           cutting = c.cutting;
-          decided = decided_more s level c.cut count c.decided (λ fresh. absurd (fresh met.from met.below met.value));
+          decided = decided_more s out c.cut count c.decided (λ fresh. absurd (fresh met.from met.below met.value));
         }
-        | inr apart ↦ decided_anew s level count c is below new apart
+        | inr apart ↦ decided_anew s out count c is below new apart
       ]
     ]
