@@ -1,150 +1,12 @@
 -- Each structure with levels is the same as one whose darts are numbered along the walk that opens it.
-use Rattle.std.proofs.Common.{◌≡◌, ℕ, suc, ◌-◌, ◌%◌, ◌<◌, inl, inr, Bool, cond, refl, sym, ap, ◌∙◌, lt-ltb, le-ltb, arith}
-use Rattle.std.proofs.Math.Nat.{mod-eq_of_lt, mod_self}
-use Rattle.std.specs.Prelude.{nat_lt, ◌==◌}
-use Rattle.std.proofs.lemmas.Bool.{cases_Bool, cases_eq, cases_lt, cond-true, cond-false}
-use Rattle.pm_perm.specs.Permutation.{IsPermutationBelow}
-use Rattle.pm_perm.proofs.InverseLemmas.{place_of, place_of-stays, place_of-of_value, value-place_of, place_of-permutes, onto_permutes}
-use Rattle.pm_perm.proofs.Permutations.{IsReached, reached}
-use Rattle.pm_perm.proofs.Repeats.{repeated-inside, repeated-back}
+use Rattle.std.proofs.Common.{◌≡◌, ℕ, suc, ◌<◌, eqb, refl, ap, arith}
 use Rattle.pm_map.specs.Structure.{Structure, IsStructure, CarriesTo}
 use Rattle.pm_map.specs.FaceDistance.{AreFaceLevels}
-use Rattle.pm_map.proofs.CarriedStructure.{structure_carried}
 use Rattle.pm_map.proofs.DistanceLemmas.{levels_carried}
-use Rattle.pm_open.proofs.Walked.{is_up, is_cut, across, IsWalkedInOrder}
-use Rattle.pm_walk.specs.Walk.{first_of}
-use Rattle.pm_walk.proofs.Cutting.{HasCut, has_cut, across_by, step_by, dart_after, step_by-permutes}
+use Rattle.pm_walk.proofs.Cutting.{HasCut, has_cut}
+use Rattle.pm_walk.proofs.Numbered.{IsWhole, IsNumberedAlong, numbered_along, walked_same}
+use Rattle.pm_open.proofs.Walked.{is_up, IsWalkedInOrder}
 use Rattle.pm_open.proofs.WholeWalk.{IsDecidedWalk, met_reached, all_met}
-
--- the walk that meets every dart gives each a place
-dart_after-permutes : (s : Structure) (level : ℕ → ℕ) (cut : ℕ → Bool) → IsDecidedWalk s level cut → IsPermutationBelow s.darts (dart_after s cut)
-dart_after-permutes s level cut w =
-    onto_permutes s.darts (dart_after s cut) (λ d h. met_reached s level cut w d (all_met s level cut w (level d) d h refl))
-
--- after as many steps as there are darts the walk is back at the root
-dart_after-round : (s : Structure) (level : ℕ → ℕ) (cut : ℕ → Bool) → IsDecidedWalk s level cut → dart_after s cut s.darts ≡ s.root
-dart_after-round s level cut w =
-    let n : ℕ = s.darts in
-    let some : 0 < n = w.some in
-    let steps : IsPermutationBelow n (step_by s cut) = step_by-permutes s cut w.structure w.cutting in
-    let walk : IsPermutationBelow n (dart_after s cut) = dart_after-permutes s level cut w in
-    let root : s.root < n = w.structure.root_stays w.some in
-    let inside : dart_after s cut n < n = repeated-inside (step_by s cut) n steps n s.root root in
-    let at : IsReached (dart_after s cut) n (dart_after s cut n) = reached (dart_after s cut) n (dart_after s cut n) walk inside in
-    let below : at.from < n = at.below in
-    elim (cases_eq at.from 0) [
-      | inl none ↦ sym at.value ∙ ap (dart_after s cut) none
-      | inr more ↦
-          let early : dart_after s cut (n - at.from) ≡ s.root = repeated-back n (step_by s cut) at.from n s.root steps root below at.value in
-          let less : n - at.from < n = omega (arith, some, below, more) in
-          absurd (omega (arith, below, walk.injective (n - at.from) 0 less some early))
-    ]
-
--- the structure with its darts numbered by their places on the walk
-numbered : Structure → (ℕ → Bool) → Structure
-numbered s cut = record {
-  darts = s.darts;
-  next = λ k. place_of (dart_after s cut) s.darts (s.next (dart_after s cut k));
-  twin = λ k. place_of (dart_after s cut) s.darts (s.twin (dart_after s cut k));
-  root = 0;
-}
-
-numbered-carries : (s : Structure) (level : ℕ → ℕ) (cut : ℕ → Bool) → IsDecidedWalk s level cut → CarriesTo (place_of (dart_after s cut) s.darts) s (numbered s cut)
-unfolding numbered
-numbered-carries s level cut w =
-    let walk : IsPermutationBelow s.darts (dart_after s cut) = dart_after-permutes s level cut w in
-    record {
-      darts = refl;
-      renumbers = place_of-permutes (dart_after s cut) s.darts walk;
-      next = λ d h. ap (λ x. place_of (dart_after s cut) s.darts (s.next x)) (sym (value-place_of (dart_after s cut) s.darts d walk h));
-      twin = λ d h. ap (λ x. place_of (dart_after s cut) s.darts (s.twin x)) (sym (value-place_of (dart_after s cut) s.darts d walk h));
-      root = λ some. place_of-of_value (dart_after s cut) s.darts 0 walk some;
-    }
-
--- the dart beyond the edge of a place
-numbered-twin : (s : Structure) (level : ℕ → ℕ) (cut : ℕ → Bool) → IsDecidedWalk s level cut → (k : ℕ) → k < s.darts
-    → (dart_after s cut ((numbered s cut).twin k) ≡ s.twin (dart_after s cut k)) × ((numbered s cut).twin k < s.darts)
-unfolding numbered
-numbered-twin s level cut w k h =
-    let walk : IsPermutationBelow s.darts (dart_after s cut) = dart_after-permutes s level cut w in
-    let inside : s.twin (dart_after s cut k) < s.darts = w.structure.twin_stays (dart_after s cut k) (walk.stays k h) in
-    (value-place_of (dart_after s cut) s.darts (s.twin (dart_after s cut k)) walk inside, place_of-stays (dart_after s cut) s.darts (s.twin (dart_after s cut k)) walk inside)
-
--- the level of a place
-abbrev level_after : Structure → (ℕ → Bool) → (ℕ → ℕ) → ℕ → ℕ
-level_after s cut level k = level (dart_after s cut k)
-
-numbered-up : (s : Structure) (level : ℕ → ℕ) (cut : ℕ → Bool) → IsDecidedWalk s level cut → (k : ℕ) → k < s.darts
-    → is_up (numbered s cut) (level_after s cut level) k ≡ is_up s level (dart_after s cut k)
-numbered-up s level cut w k h = ap (λ x. level x == suc (level (dart_after s cut k))) (numbered-twin s level cut w k h).0
-
--- of the two darts of an edge the one with the lesser place was met first
-numbered-cut : (s : Structure) (level : ℕ → ℕ) (cut : ℕ → Bool) → IsDecidedWalk s level cut → (k : ℕ) → k < s.darts
-    → is_cut (numbered s cut) (level_after s cut level) k ≡ cut (dart_after s cut k)
-numbered-cut s level cut w k h =
-    let walk : IsPermutationBelow s.darts (dart_after s cut) = dart_after-permutes s level cut w in
-    let is : IsStructure s = w.structure in
-    let other : ℕ = (numbered s cut).twin k in
-    let twins = numbered-twin s level cut w k h in
-    let beyond : dart_after s cut other ≡ s.twin (dart_after s cut k) = twins.0 in
-    let inside : other < s.darts = twins.1 in
-    let here : dart_after s cut k < s.darts = walk.stays k h in
-    elim (cases_lt other k) [
-      | inl second ↦
-          let chosen : first_of (numbered s cut) k ≡ other = cond-true (nat_lt other k) other k (lt-ltb other k second) in
-          let decided : cut (dart_after s cut other) ≡ is_up s level (dart_after s cut other) =
-          w.decided.decided other inside
-          (λ i less e.
-          let same : i ≡ k = walk.injective i k (omega (arith, less, inside)) h (e ∙ ap s.twin beyond ∙ is.twin_back (dart_after s cut k) here) in
-          omega (arith, same, less, second)) in
-          ap (is_up (numbered s cut) (level_after s cut level)) chosen ∙ numbered-up s level cut w other inside ∙ sym decided
-          ∙ ap cut beyond ∙ w.cutting.both (dart_after s cut k) here
-      | inr first ↦
-          let chosen : first_of (numbered s cut) k ≡ k = cond-false (nat_lt other k) other k (le-ltb other k first) in
-          let decided : cut (dart_after s cut k) ≡ is_up s level (dart_after s cut k) =
-          w.decided.decided k h
-          (λ i less e.
-          let same : i ≡ other = walk.injective i other (omega (arith, less, h)) inside (e ∙ sym beyond) in
-          omega (arith, same, less, first)) in
-          ap (is_up (numbered s cut) (level_after s cut level)) chosen ∙ numbered-up s level cut w k h ∙ sym decided
-    ]
-
--- the dart across of a place
-numbered-across : (s : Structure) (level : ℕ → ℕ) (cut : ℕ → Bool) → IsDecidedWalk s level cut → (k : ℕ) → k < s.darts
-    → dart_after s cut (across (numbered s cut) (level_after s cut level) k) ≡ across_by s cut (dart_after s cut k)
-numbered-across s level cut w k h =
-    let x : ℕ = dart_after s cut k in
-    let other : ℕ = (numbered s cut).twin k in
-    ap (λ b. dart_after s cut (cond b k ((numbered s cut).twin k))) (numbered-cut s level cut w k h)
-    ∙ (elim (cases_Bool (cut x)) [
-      | inl cuts ↦ ap (dart_after s cut) (cond-true (cut x) k other cuts) ∙ sym (cond-true (cut x) x (s.twin x) cuts)
-      | inr kept ↦ ap (dart_after s cut) (cond-false (cut x) k other kept) ∙ (numbered-twin s level cut w k h).0 ∙ sym (cond-false (cut x) x (s.twin x) kept)
-    ])
-
--- after each place comes the next one
-numbered-onward : (s : Structure) (level : ℕ → ℕ) (cut : ℕ → Bool) → IsDecidedWalk s level cut → (k : ℕ) → k < s.darts
-    → (numbered s cut).next (across (numbered s cut) (level_after s cut level) k) ≡ suc k % s.darts
-unfolding numbered
-numbered-onward s level cut w k h =
-    let n : ℕ = s.darts in
-    let walk : IsPermutationBelow n (dart_after s cut) = dart_after-permutes s level cut w in
-    let some : 0 < n = w.some in
-    ap (λ x. place_of (dart_after s cut) s.darts (s.next x)) (numbered-across s level cut w k h)
-    ∙ (elim (cases_lt (suc k) n) [
-      | inl more ↦ place_of-of_value (dart_after s cut) n (suc k) walk more ∙ sym (mod-eq_of_lt more)
-      | inr last ↦
-          let whole : suc k ≡ n = omega (arith, last, h) in
-          ap (λ j. place_of (dart_after s cut) n (dart_after s cut j)) whole ∙ ap (place_of (dart_after s cut) n) (dart_after-round s level cut w)
-          ∙ place_of-of_value (dart_after s cut) n 0 walk some ∙ sym (mod_self n) ∙ ap (λ j. j % n) (sym whole)
-    ])
-
-first_root : (s : Structure) (cut : ℕ → Bool) → (numbered s cut).root ≡ 0
-unfolding numbered
-first_root s cut = refl
-
-in_order : (s : Structure) (level : ℕ → ℕ) (cut : ℕ → Bool) → IsDecidedWalk s level cut → IsWalkedInOrder (numbered s cut) (level_after s cut level)
-unfolding numbered
-in_order s level cut w = record { root = refl; onward = λ d h. numbered-onward s level cut w d h }
 
 -- a structure is the same as one with levels whose darts are numbered along the walk, with the same levels
 pub record IsWalked (s : Structure) (level : ℕ → ℕ) : Type 0 where
@@ -157,26 +19,37 @@ pub record IsWalked (s : Structure) (level : ℕ → ℕ) : Type 0 where
   pub in_order : IsWalkedInOrder walked walked_level
   pub same_level : (d : ℕ) → d < s.darts → walked_level (rename d) ≡ level d
 
-numbered-walked : (s : Structure) (level : ℕ → ℕ) (cut : ℕ → Bool) → IsDecidedWalk s level cut → IsWalked s level
-numbered-walked s level cut w =
-    let walk : IsPermutationBelow s.darts (dart_after s cut) = dart_after-permutes s level cut w in
-    let carries : CarriesTo (place_of (dart_after s cut) s.darts) s (numbered s cut) = numbered-carries s level cut w in
-    let structure : IsStructure (numbered s cut) = structure_carried (place_of (dart_after s cut) s.darts) s (numbered s cut) w.structure carries (λ none. first_root s cut) in
-    let same : (d : ℕ) → d < s.darts → level_after s cut level (place_of (dart_after s cut) s.darts d) ≡ level d = λ d h.
-    ap level (value-place_of (dart_after s cut) s.darts d walk h) in
+-- the levels go along with the numbers
+numbered-walked : (s : Structure) (level : ℕ → ℕ) → IsStructure s → AreFaceLevels s level → IsNumberedAlong s (is_up s level) → IsWalked s level
+numbered-walked s level is levels n =
+    let walked_level : ℕ → ℕ = λ k. level (n.dart k) in
+    let same : (d : ℕ) → d < s.darts → level (n.dart (n.rename d)) ≡ level d = λ d h. ap level (n.back d h) in
     record {
-      walked = numbered s cut;
-      walked_level = level_after s cut level;
-      rename = place_of (dart_after s cut) s.darts;
-      carries = carries;
-      structure = structure;
-      levels = levels_carried (place_of (dart_after s cut) s.darts) s (numbered s cut) level (level_after s cut level) w.structure structure carries w.levels same;
-      in_order = in_order s level cut w;
+      walked = n.walked;
+      walked_level = λ k. level (n.dart k);
+      rename = n.rename;
+      carries = n.carries;
+      structure = n.structure;
+      levels = levels_carried n.rename s n.walked level (λ k. level (n.dart k)) is n.structure n.carries levels same;
+      in_order = walked_same n.walked (λ k. is_up s level (n.dart k)) (is_up n.walked (λ k. level (n.dart k)))
+          (λ k h. ap (λ (d : ℕ). eqb (level d) (suc (level (n.dart k)))) (n.twin k (omega (arith, h, n.carries.darts)))) n.in_order;
       same_level = same;
+    }
+
+-- the walk meets every dart
+whole : (s : Structure) (level : ℕ → ℕ) (cut : HasCut s (is_up s level) s.darts) → IsStructure s → 0 < s.darts → AreFaceLevels s level → IsWhole s (is_up s level) cut.cut
+whole s level c is some levels =
+    let w : IsDecidedWalk s level c.cut = record { structure = is; some = some; levels = levels; cutting = c.cutting; decided = c.decided } in
+    record {
+      structure = is;
+      some = some;
+      cutting = c.cutting;
+      decided = c.decided;
+      meets = λ d h. met_reached s level c.cut w d (all_met s level c.cut w (level d) d h refl);
     }
 
 -- each structure with a dart and levels is walked
 pub each_map_is_walked : (s : Structure) (level : ℕ → ℕ) → IsStructure s → 0 < s.darts → AreFaceLevels s level → IsWalked s level
 each_map_is_walked s level is some levels =
     let c : HasCut s (is_up s level) s.darts = has_cut s (is_up s level) is some s.darts in
-    numbered-walked s level c.cut (record { structure = is; some = some; levels = levels; cutting = c.cutting; decided = c.decided })
+    numbered-walked s level is levels (numbered_along s (is_up s level) c.cut (whole s level c is some levels))

@@ -1,3 +1,5 @@
 pub mod Cutting
 pub mod Edges
 pub mod NestedEdges
+pub mod Numbered
+pub mod OneWalk
