@@ -9,9 +9,13 @@ ghost use Rattle.pm_open.specs.steps.DistanceSearch.{FindsFace, IsFinding};
 use pm_map::RootedMap;
 use std::alloc::{AllocError, Global};
 
-/// How far the face of each dart is from the root's face, over edges, dart by dart. One search from the root's face, in
-/// time linear in the darts.
-pub(crate) fn face_distances(alloc: Global, map: &RootedMap) -> Result<Vec<u32>, AllocError>
+/// How far the face of each dart is from the root's face, over edges, dart by dart, for any rooted map. It takes time linear
+/// in the darts.
+///
+/// # Errors
+///
+/// Only where there is no memory left.
+pub fn face_distances(alloc: Global, map: &RootedMap) -> Result<Vec<u32>, AllocError>
     ensures { IfOk result (λ distances. AreFaceDistances map.now distances.items) }
 {
     let count = map.sigma().len();

@@ -6,6 +6,7 @@ mod laws;
 mod opening;
 mod walking;
 
+pub use distances::face_distances;
 pub use laws::{
     each_map_opens_once, face_distances_differ_by_one, levels_are_face_distances,
     opening_answer_is_unique, openings_keep_degrees,
