@@ -19,6 +19,7 @@ pub(crate) fn twins_of(
     requires pairing { IsPairing (contour tree.now) pairing.now }
     ensures { IfOk result (λ twins. IsTwinList (contour tree.now) twins.items) }
 {
+    // Read for its clauses: the places are few, and leaves and buds are in balance.
     let _letters = tree.letters();
     let mut twins = Vec::from_slice(alloc, across)?;
     for pair in pairing.pairs() {

@@ -21,15 +21,20 @@ rise_none places = record { highest = (λ k h. let same : k ≡ 0 = omega arith 
 here_is_low : (places : List ℕ) (i k c : ℕ) → k ≡ i → buds places i + leaves places k ≤ leaves places i + buds places k + c
 here_is_low places i k c e = subst (λ (m : ℕ). buds places i + leaves places m ≤ leaves places i + buds places m + c) (sym e) (omega arith)
 
+-- one place further, where the rise falls by no more than the counts do
+higher : (places : List ℕ) (i c after : ℕ) → buds places (suc i) + leaves places i + c ≤ leaves places (suc i) + buds places i + after → IsRise places i c
+    → (k : ℕ) → k ≤ suc i → buds places (suc i) + leaves places k ≤ leaves places (suc i) + buds places k + after
+higher places i c after less h k near = elim (cases_eq k (suc i)) [
+  | inl same ↦ here_is_low places (suc i) k after same
+  | inr ne ↦ omega (arith, h.highest k (omega arith), less)
+]
+
 pub rise_bud : (places : List ℕ) (i c : ℕ) → letter places i ≡ BUD → IsRise places i c → IsRise places (suc i) (suc c)
 rise_bud places i c e h =
     let step = at_bud places i e in
     let before = h.foot_before in
     record {
-      highest = (λ k near. elim (cases_eq k (suc i)) [
-        | inl same ↦ here_is_low places (suc i) k (suc c) same
-        | inr ne ↦ omega (arith, h.highest k (omega arith), step.more_buds, step.more_leaves)
-      ]);
+      highest = higher places i c (suc c) (omega (arith, step.more_buds, step.more_leaves)) h;
       foot = h.foot;
       foot_before = omega arith;
       reached = omega (arith, h.reached, step.more_buds, step.more_leaves);
@@ -40,10 +45,7 @@ rise_leaf places i c e h =
     let step = at_leaf places i e in
     let before = h.foot_before in
     record {
-      highest = (λ k near. elim (cases_eq k (suc i)) [
-        | inl same ↦ here_is_low places (suc i) k c same
-        | inr ne ↦ omega (arith, h.highest k (omega arith), step.more_buds, step.more_leaves)
-      ]);
+      highest = higher places i (suc c) c (omega (arith, step.more_buds, step.more_leaves)) h;
       foot = h.foot;
       foot_before = omega arith;
       reached = omega (arith, h.reached, step.more_buds, step.more_leaves);
@@ -54,10 +56,7 @@ pub rise_loose : (places : List ℕ) (i : ℕ) → letter places i ≡ LEAF → 
 rise_loose places i e h =
     let step = at_leaf places i e in
     record {
-      highest = (λ k near. elim (cases_eq k (suc i)) [
-        | inl same ↦ here_is_low places (suc i) k 0 same
-        | inr ne ↦ omega (arith, h.highest k (omega arith), step.more_buds, step.more_leaves)
-      ]);
+      highest = higher places i 0 0 (omega (arith, step.more_buds, step.more_leaves)) h;
       foot = suc i;
       foot_before = omega arith;
       reached = omega arith;
@@ -68,10 +67,7 @@ rise_other places i c i_in no_bud no_leaf h =
     let step = at_other places i i_in no_bud no_leaf in
     let before = h.foot_before in
     record {
-      highest = (λ k near. elim (cases_eq k (suc i)) [
-        | inl same ↦ here_is_low places (suc i) k c same
-        | inr ne ↦ omega (arith, h.highest k (omega arith), step.more_buds, step.more_leaves)
-      ]);
+      highest = higher places i c c (omega (arith, step.more_buds, step.more_leaves)) h;
       foot = h.foot;
       foot_before = omega arith;
       reached = omega (arith, h.reached, step.more_buds, step.more_leaves);

@@ -31,7 +31,8 @@ changes s level is some plane even levels =
           ]
 
 pub differ_by_one : DistancesDifferByOne
-differ_by_one s is plane even d here beyond l at_here at_beyond =
+differ_by_one s plane even d here beyond l at_here at_beyond =
+    let is : IsStructure s = plane.structure in
     let distances = each_face_has_distance s is plane.connected in
     let levels : AreFaceLevels s distances.0 = (levels_are_distances s distances.0 is).1 distances.1 in
     let one : here ≡ distances.0 d = one_distance s s.root d here (distances.0 d) at_here (distances.1 d l) in

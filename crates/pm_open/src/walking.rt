@@ -63,6 +63,7 @@ fn pass(map: &RootedMap, distances: &[u32], dart: u32, fates: &mut [Fate]) -> St
     requires edges { 2 * length fates.old ≡ length map.now.sigma }
     ensures { IsPassed map.now distances.now dart fates.old fates.new result }
 {
+    // Read for its clauses: the darts are few and come in twos.
     let _sigma = map.sigma();
     let twin = map.twin(dart);
     let edge = dart as usize / 2;

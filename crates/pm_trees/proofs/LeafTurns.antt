@@ -6,7 +6,7 @@ use Rattle.pm_trees.specs.declared.letters.TheConstants.{LEAF}
 use Rattle.pm_trees.specs.Word.{count, IsBracketing}
 use Rattle.pm_trees.specs.Leaves.{IsLeafAt}
 use Rattle.pm_trees.specs.Replanted.{place_from, IsTurned}
-use Rattle.pm_trees.proofs.Tally.{tally_is, tally-nil, tally_yes, tally_no}
+use Rattle.pm_trees.proofs.Tally.{tally, tally_is, tally-nil, tally_yes, tally_no}
 use Rattle.pm_trees.proofs.Levels.{seen, seen_is, seen_none, seen_yes, seen_no, inside}
 use Rattle.pm_trees.proofs.RingPlaces.{mod_stays, letter_back}
 
@@ -72,22 +72,24 @@ pub record HasLeaf (xs : List ℕ) (number : ℕ) : Type 0 where
   pub place : ℕ
   pub is_leaf : IsLeafAt xs number place
 
+-- behind one letter more a leaf stands one place further, with one leaf more before it where that letter is one
+behind : (x : ℕ) (xs : List ℕ) (number more after : ℕ) → ((ys : List ℕ) → tally LEAF (x ∷ ys) ≡ more + tally LEAF ys) → after ≡ more + number → HasLeaf xs number → HasLeaf (x ∷ xs) after
+behind x xs number more after counted is rest = record {
+  place = suc rest.place;
+  is_leaf = record {
+    here = rest.is_leaf.here;
+    before =
+        let d = rest.is_leaf.before in
+        let e = tally_is LEAF (take (suc rest.place) (x ∷ xs)) in
+        let f = tally_is LEAF (take rest.place xs) in
+        let g = counted (take rest.place xs) in
+        omega (arith, d, e, f, g, is);
+  };
+}
+
 from_leaf : (x : ℕ) (xs : List ℕ) (k : ℕ) → x ≡ LEAF → k < suc (count LEAF xs) → ((j : ℕ) → j < count LEAF xs → HasLeaf xs j) → HasLeaf (x ∷ xs) k
 from_leaf x xs zero y _ _ = record { place = 0; is_leaf = record { here = y; before = let a = tally_is LEAF [] in let b = tally-nil LEAF in omega (arith, a, b) } }
-from_leaf x xs (suc k) y m next =
-    let rest = next k (omega arith) in
-    record {
-      place = suc rest.place;
-      is_leaf = record {
-        here = rest.is_leaf.here;
-        before =
-            let d = rest.is_leaf.before in
-            let e = tally_is LEAF (take (suc rest.place) (x ∷ xs)) in
-            let f = tally_is LEAF (take rest.place xs) in
-            let g = tally_yes LEAF x (take rest.place xs) y in
-            omega (arith, d, e, f, g);
-      };
-    }
+from_leaf x xs (suc k) y m next = behind x xs k 1 (suc k) (λ ys. let e = tally_yes LEAF x ys y in omega (arith, e)) (omega arith) (next k (omega arith))
 
 pub leaf_exists : (xs : List ℕ) (number : ℕ) → number < count LEAF xs → HasLeaf xs number
 leaf_exists [] number l = let a = tally_is LEAF [] in let b = tally-nil LEAF in absurd (omega (arith, a, b))
@@ -98,19 +100,7 @@ leaf_exists (x ∷ xs) number l =
       | inl y ↦ from_leaf x xs number y (let c = tally_yes LEAF x xs y in omega (arith, a, b, c)) (λ k m. leaf_exists xs k m)
       | inr n ↦
           let c = tally_no LEAF x xs n in
-          let rest = leaf_exists xs number (omega (arith, a, b, c)) in
-          record {
-            place = suc rest.place;
-            is_leaf = record {
-              here = rest.is_leaf.here;
-              before =
-                  let d = rest.is_leaf.before in
-                  let e = tally_is LEAF (take (suc rest.place) (x ∷ xs)) in
-                  let f = tally_is LEAF (take rest.place xs) in
-                  let g = tally_no LEAF x (take rest.place xs) n in
-                  omega (arith, d, e, f, g);
-            };
-          }
+          behind x xs number 0 number (λ ys. let e = tally_no LEAF x ys n in omega (arith, e)) (omega arith) (leaf_exists xs number (omega (arith, a, b, c)))
     ]
 
 -- a ring read from a place on
