@@ -1,5 +1,13 @@
 pub mod DualWritten
+pub mod HalfNames
+pub mod HalfSteps
+pub mod HalvedMaps
 pub mod MedialCounts
 pub mod MedialSame
 pub mod MedialStructure
+pub mod OneMedial
+pub mod SignedDarts
+pub mod TwoColours
+pub mod UnmedialLaws
+pub mod UnmedialSteps
 pub mod WrittenLemmas

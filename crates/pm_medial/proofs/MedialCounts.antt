@@ -113,6 +113,12 @@ module _ (s m : Structure) (is : IsStructure s) (of : IsMedialOf s m) where
       let double : cycles m.darts (face_next m) ≡ cycles (2 * s.darts) (face_next m) = ap (λ n. cycles n (face_next m)) of.darts in
       rw (none, none_there) (omega (arith, turned, back, double, faces_and_vertices))
 
+-- four times the vertices are the darts, where each has degree 4
+pub four_each : (s : Structure) → IsStructure s → 0 < s.darts → ((d : ℕ) → d < s.darts → IsCycleSize s.next d 4) → 4 * vertices s ≡ s.darts
+four_each s is some sizes =
+    let none : eqb s.darts 0 ≡ false = ne_eqb s.darts 0 (λ e. absurd (omega (arith, e, some))) in
+    rw none (darts_of_degree s 4 is sizes)
+
 four_times : (v darts double : ℕ) → 4 * v ≡ double → double ≡ 2 * darts → (v ≡ darts / 2) × (double / 2 ≡ 2 * (darts / 2))
 four_times v darts double four twice = (omega arith, omega arith)
 

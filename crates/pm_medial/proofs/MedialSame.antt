@@ -46,14 +46,14 @@ module _ (a b am bm : Structure) (is : IsStructure a) (also : IsStructure b) (am
             (interleaved_permutes a.darts p p (doubled p) carries.renumbers carries.renumbers (record { even = λ d h. even d; odd = λ d h. odd d }));
         next = λ k h. by_parity (λ k. doubled p (am.next k) ≡ bm.next (doubled p k)) a.darts
             (λ d l.
-                let earlier : before a am is am_of d < a.darts = before_stays a am is am_of d l in
-                let behind : p d ≡ b.next (p (before a am is am_of d)) = sym (ap p (next_before a am is am_of d l)) ∙ carries.next (before a am is am_of d) earlier in
-                ap (doubled p) (after_even a am is am_of d l) ∙ odd (before a am is am_of d) ∙ sym (bm_of.after_plus (p (before a am is am_of d)) (there (before a am is am_of d) earlier))
-                ∙ ap (λ e. bm.next (2 * e)) (sym behind) ∙ ap bm.next (sym (even d)))
+            let earlier : before a am is am_of d < a.darts = before_stays a am is am_of d l in
+            let behind : p d ≡ b.next (p (before a am is am_of d)) = sym (ap p (next_before a am is am_of d l)) ∙ carries.next (before a am is am_of d) earlier in
+            ap (doubled p) (after_even a am is am_of d l) ∙ odd (before a am is am_of d) ∙ sym (bm_of.after_plus (p (before a am is am_of d)) (there (before a am is am_of d) earlier))
+            ∙ ap (λ e. bm.next (2 * e)) (sym behind) ∙ ap bm.next (sym (even d)))
             (λ d l.
-                let stays : a.next d < a.darts = is.rotation.stays d l in
-                ap (doubled p) (am_of.after_minus d l) ∙ even (a.twin (a.next d)) ∙ ap (λ e. 2 * e) (carries.twin (a.next d) stays ∙ ap b.twin (carries.next d l))
-                ∙ sym (bm_of.after_minus (p d) (there d l)) ∙ ap bm.next (sym (odd d)))
+            let stays : a.next d < a.darts = is.rotation.stays d l in
+            ap (doubled p) (am_of.after_minus d l) ∙ even (a.twin (a.next d)) ∙ ap (λ e. 2 * e) (carries.twin (a.next d) stays ∙ ap b.twin (carries.next d l))
+            ∙ sym (bm_of.after_minus (p d) (there d l)) ∙ ap bm.next (sym (odd d)))
             k (subst (λ n. k < n) am_of.darts h);
         twin = λ k h. by_parity (λ k. doubled p (am.twin k) ≡ bm.twin (doubled p k)) a.darts
             (λ d l. ap (doubled p) (am_of.twin_of_plus d l) ∙ odd d ∙ sym (bm_of.twin_of_plus (p d) (there d l)) ∙ ap bm.twin (sym (even d)))
@@ -119,7 +119,7 @@ module _ (a b am bm : Structure) (is : IsStructure a) (also : IsStructure b) (am
         let goes : b.next (halved d) < b.darts = also.rotation.stays (halved d) (halved_stays d h) in
         let one : 2 * halved (a.next d) ≡ 2 * b.next (halved d) =
         (medial_is_structure b bm also bm_of).rotation.injective (2 * halved (a.next d)) (2 * b.next (halved d))
-            (omega (arith, bm_of.darts, halved_stays (a.next d) stays)) (omega (arith, bm_of.darts, goes)) (here ∙ sym there) in
+        (omega (arith, bm_of.darts, halved_stays (a.next d) stays)) (omega (arith, bm_of.darts, goes)) (here ∙ sym there) in
         omega (arith, one)
 
     halved_twin : (d : ℕ) → d < a.darts → halved (a.twin d) ≡ b.twin (halved d)
@@ -142,7 +142,7 @@ module _ (a b am bm : Structure) (is : IsStructure a) (also : IsStructure b) (am
             stays = λ d h. subst (λ n. halved d < n) (sym darts) (halved_stays d h);
             injective = λ d e hd he same.
                 let one : 2 * d ≡ 2 * e = carries.renumbers.injective (2 * d) (2 * e) (omega (arith, am_of.darts, hd)) (omega (arith, am_of.darts, he))
-                    (at_plus d hd ∙ ap (λ x. 2 * x) same ∙ sym (at_plus e he)) in
+                (at_plus d hd ∙ ap (λ x. 2 * x) same ∙ sym (at_plus e he)) in
                 omega (arith, one);
           };
           next = halved_next;
@@ -156,6 +156,8 @@ module _ (a b am bm : Structure) (is : IsStructure a) (also : IsStructure b) (am
 pub medials_tell : MedialsTell
 medials_tell a b am bm is also connected am_of bm_of = (
   λ same. (doubled same.0, medials_carried a b am bm is also am_of bm_of same.0 same.1),
-  λ same. (halved a b am bm is also am_of bm_of (medial_is_connected a am is am_of connected) same.0 same.1,
-      medials_carried_back a b am bm is also am_of bm_of (medial_is_connected a am is am_of connected) same.0 same.1),
+  λ same. (
+    halved a b am bm is also am_of bm_of (medial_is_connected a am is am_of connected) same.0 same.1,
+    medials_carried_back a b am bm is also am_of bm_of (medial_is_connected a am is am_of connected) same.0 same.1,
+  ),
 )

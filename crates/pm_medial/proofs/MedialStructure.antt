@@ -8,19 +8,16 @@ use Rattle.pm_medial.specs.Medial.{IsMedialOf}
 
 module _ (s m : Structure) (is : IsStructure s) (of : IsMedialOf s m) where
   -- the dart before a dart around its vertex
-  pub before : ℕ → ℕ
+  abbrev pub before : ℕ → ℕ
   before d = place_of s.next s.darts d
 
   pub before_stays : (d : ℕ) → d < s.darts → before d < s.darts
-  unfolding before
   before_stays d h = place_of-stays s.next s.darts d is.rotation h
 
   pub next_before : (d : ℕ) → d < s.darts → s.next (before d) ≡ d
-  unfolding before
   next_before d h = value-place_of s.next s.darts d is.rotation h
 
   pub before_permutes : IsPermutationBelow s.darts before
-  unfolding before
   before_permutes = place_of-permutes s.next s.darts is.rotation
 
   -- the next dart after a plus and after a minus, each by its own number
@@ -46,11 +43,11 @@ module _ (s m : Structure) (is : IsStructure s) (of : IsMedialOf s m) where
   next_injective : (j : ℕ) → j < 2 * s.darts → (k : ℕ) → k < 2 * s.darts → m.next j ≡ m.next k → j ≡ k
   next_injective = by_parity (λ j. (k : ℕ) → k < 2 * s.darts → m.next j ≡ m.next k → j ≡ k) s.darts
       (λ d h. by_parity (λ k. m.next (2 * d) ≡ m.next k → 2 * d ≡ k) s.darts
-          (λ e l same. ap (λ x. 2 * x) (before_permutes.injective d e h l (omega (arith, after_even d h, after_even e l, same))))
-          (λ e l same. absurd (omega (arith, after_even d h, after_odd e l, same))))
+      (λ e l same. ap (λ x. 2 * x) (before_permutes.injective d e h l (omega (arith, after_even d h, after_even e l, same))))
+      (λ e l same. absurd (omega (arith, after_even d h, after_odd e l, same))))
       (λ d h. by_parity (λ k. m.next (suc (2 * d)) ≡ m.next k → suc (2 * d) ≡ k) s.darts
-          (λ e l same. absurd (omega (arith, after_odd d h, after_even e l, same)))
-          (λ e l same. ap (λ x. suc (2 * x)) (twin_next_injective d e h l (omega (arith, after_odd d h, after_odd e l, same)))))
+      (λ e l same. absurd (omega (arith, after_odd d h, after_even e l, same)))
+      (λ e l same. ap (λ x. suc (2 * x)) (twin_next_injective d e h l (omega (arith, after_odd d h, after_odd e l, same)))))
 
   -- the medial structure is a structure
   pub medial_is_structure : IsStructure m
@@ -84,11 +81,11 @@ module _ (s m : Structure) (is : IsStructure s) (of : IsMedialOf s m) where
       λ d l test. subst (λ e. IsTrue (holds e)) (after_odd d l) (closed.under_next (suc (2 * d)) (minus d l) test) in
       let under_twin : (d : ℕ) (l : d < s.darts) → IsTrue (holds (2 * d)) → IsTrue (holds (2 * s.twin d)) =
       λ d l test. subst (λ e. IsTrue (holds (2 * s.twin e))) (next_before d l)
-          (behind (before d) (before_stays d l) (subst (λ e. IsTrue (holds e)) (after_even d l) (closed.under_next (2 * d) (plus d l) test))) in
+      (behind (before d) (before_stays d l) (subst (λ e. IsTrue (holds e)) (after_even d l) (closed.under_next (2 * d) (plus d l) test))) in
       let under_next : (d : ℕ) (l : d < s.darts) → IsTrue (holds (2 * d)) → IsTrue (holds (2 * s.next d)) =
       λ d l test. subst (λ e. IsTrue (holds (2 * e))) (is.twin_back (s.next d) (is.rotation.stays d l))
-          (under_twin (s.twin (s.next d)) (twin_next_stays d l)
-          (behind d l (subst (λ e. IsTrue (holds e)) (of.twin_of_plus d l) (closed.under_twin (2 * d) (plus d l) test)))) in
+      (under_twin (s.twin (s.next d)) (twin_next_stays d l)
+      (behind d l (subst (λ e. IsTrue (holds e)) (of.twin_of_plus d l) (closed.under_twin (2 * d) (plus d l) test)))) in
       let pluses : (d : ℕ) → d < s.darts → IsTrue (holds (2 * d)) =
       connected (λ d. holds (2 * d)) (subst (λ e. IsTrue (holds e)) of.root root) (record { under_next = under_next; under_twin = under_twin }) in
       by_parity (λ k. IsTrue (holds k)) s.darts pluses

@@ -1,3 +1,4 @@
+pub mod Colouring
 pub mod Medial
 pub mod MedialLaws
 pub mod steps

@@ -1,6 +1,6 @@
 -- The medial structure of a structure: a vertex of degree 4 for each edge; two edges that follow each other around a vertex
 -- are joined (Tutte 1963).
-use Rattle.std.specs.Prelude.{◌≡◌, ℕ, suc, ◌*◌, ◌<◌, Result, Ok, Err, ⊤}
+use Rattle.std.specs.Prelude.{◌≡◌, ℕ, suc, ◌*◌, ◌<◌, ◌≤◌, Result, Ok, Err, ⊤}
 use Rattle.pm_limits.specs.declared.TheConstants.{MAX_EDGES}
 use Rattle.pm_map.specs.Structure.{Structure, Same}
 use Rattle.pm_map.specs.Plane.{edges}
@@ -8,6 +8,10 @@ use Rattle.pm_map.specs.Rotation.{RotationSystem, structure_of, IsRootedMap}
 use Rattle.pm_map.specs.declared.rooted_map.RootedMap.{RootedMap}
 use Rattle.pm_medial.specs.declared.medials.MedialRefusal.{MedialRefusal}
 use Rattle.pm_medial.specs.declared.medials.MedialRefusal.TheVariants.{Memory, TooMany}
+use Rattle.pm_map.specs.declared.admitted.Degrees.TheVariants.{Exactly}
+use Rattle.pm_map.specs.ClassRules.{IsLeastOther}
+use Rattle.pm_medial.specs.declared.unmedials.UnmedialRefusal.{UnmedialRefusal}
+use Rattle.pm_medial.specs.declared.unmedials.UnmedialRefusal.TheVariants as without
 
 -- Each dart d gives two darts, its plus and its minus. Around the vertex of an edge stand the plus of d, the minus of d, the
 -- plus of the twin of d and the minus of that twin. The twin of the plus of d is the minus of the dart after d. The root is
@@ -29,9 +33,14 @@ pub record HasTooManyEdges (map : RotationSystem) (twice : ℕ) : Type 0 where
   pub many : MAX_EDGES < twice
   pub counted : twice ≡ 2 * edges (structure_of map)
 
+-- twice the edges of the map are within the limit, and this is its medial map
+pub record HasMedialMap (map medial : RotationSystem) : Type 0 where
+  pub few : 2 * edges (structure_of map) ≤ MAX_EDGES
+  pub is_medial : IsMedialMap map medial
+
 -- the answer to a map: its medial map, or that this would have too many edges; want of memory may come at any map
 abbrev pub IsMedialAnswer : RotationSystem → Result RootedMap MedialRefusal → Type 0
-IsMedialAnswer map (Ok medial) = IsMedialMap map medial
+IsMedialAnswer map (Ok medial) = HasMedialMap map medial
 IsMedialAnswer map (Err (TooMany twice)) = HasTooManyEdges map twice
 IsMedialAnswer map (Err Memory) = ⊤
 
@@ -41,3 +50,9 @@ pub record IsUnmedialOf (s : Structure) (map : RotationSystem) : Type 0 where
   pub medial : Structure
   pub is_medial : IsMedialOf (structure_of map) medial
   pub is_same : Same s medial
+
+-- the answer to a map: an unmedial, or the least dart whose vertex hasn't degree 4; want of memory may come at any map
+abbrev pub IsUnmedialAnswer : RotationSystem → Result RootedMap UnmedialRefusal → Type 0
+IsUnmedialAnswer map (Ok unmedial) = IsUnmedialOf (structure_of map) unmedial
+IsUnmedialAnswer map (Err (without.NotQuartic dart)) = IsLeastOther (structure_of map) (Exactly 4) dart
+IsUnmedialAnswer map (Err without.Memory) = ⊤

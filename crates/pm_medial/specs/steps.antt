@@ -1,1 +1,2 @@
+pub mod Halved
 pub mod Written

@@ -1,5 +1,6 @@
 //! The laws of medial maps: calls that do nothing, whose clauses are the laws.
-ghost use Rattle.pm_medial.specs.MedialLaws.{MedialCounts, MedialIsQuartic, MedialsTell};
+ghost use Rattle.pm_medial.specs.Colouring.{ColouringIsUnique, FacesHaveTwoColours};
+ghost use Rattle.pm_medial.specs.MedialLaws.{EachQuarticHasUnmedial, MedialCounts, MedialHasOneAnswer, MedialIsQuartic, MedialOfUnmedialIsSame, MedialsTell, UnmedialCounts, UnmedialOfMedialIsSame, UnmedialsTell};
 
 /// A law: the medial structure of a plane structure with a dart is plane, each of its vertices has degree 4, and it has a
 /// vertex for each edge, twice as many edges, and a face for each vertex and each face. Two connected structures are the
@@ -8,4 +9,28 @@ pub fn medial_is_quartic()
     ensures quartic { MedialIsQuartic }
     ensures counts { MedialCounts }
     ensures tells { MedialsTell }
+{}
+
+/// A law: medial maps and unmedials undo each other, up to the names of darts. Each map with a dart whose vertices have
+/// degree 4 has an unmedial; two maps are the same exactly where their unmedials are. An unmedial has an edge for each
+/// vertex of the map. Nothing is computed.
+pub fn unmedial_undoes_medial()
+    ensures unmedial_of_medial { UnmedialOfMedialIsSame }
+    ensures medial_of_unmedial { MedialOfUnmedialIsSame }
+    ensures exists { EachQuarticHasUnmedial }
+    ensures tells { UnmedialsTell }
+    ensures counts { UnmedialCounts }
+{}
+
+/// A law: the faces of a plane structure have two colours, with another one across each edge, exactly where all degrees
+/// are even, however great; and in one way where the root's face has the colour true. Nothing is computed.
+pub fn faces_have_two_colours()
+    ensures exactly { FacesHaveTwoColours }
+    ensures unique { ColouringIsUnique }
+{}
+
+/// A law: a map has one answer of [`crate::medial`], but for want of memory; nothing is computed.
+#[tactic(auto, using(crate::proofs::OneMedial::one_medial_answer))]
+pub fn medial_answer_is_unique()
+    ensures { MedialHasOneAnswer }
 {}
