@@ -6,7 +6,7 @@ use Rattle.pm_map.specs.declared.class_refusal.ClassRefusal.{ClassRefusal}
 use Rattle.pm_map.proofs.SameMaps.{same_as_itself}
 use Rattle.pm_map.proofs.UniqueCanonical.{canonical_map_is_rooted, canonical_map_is_unique}
 use Rattle.pm_canon.proofs.ExistenceLemmas.{canonical_map_exists}
-use Rattle.pm_class.specs.ClassLaws.{IsKept}
+use Rattle.pm_class.specs.ClassLaws.{IsKeptByRenumbering}
 use Rattle.pm_class.specs.OneToOne.{IsMember, IsGiven, AreOneToOne}
 use Rattle.pm_class.specs.Sampling.{IsSizeWhereAnswered, HasOneAnswer}
 use Rattle.pm_class.specs.Undoing.{UnsamplingUndoes, SamplingUndoes, EachMapIsUnsampled, ListsAreResidues}
@@ -38,7 +38,7 @@ module _ {Size : Type 0} (is_size : Size → Type 0) (choice_limits residue_limi
       let same = (law size is).one_sample choices u.canonical sample.map residue sample.residue given s.given in
       (subst (IsCanonicalOf map) same.0 u.is_canonical, sym same.1)
 
-  pub map_is_unsampled : ((size : Size) → is_size size → IsKept (has size)) → EachMapIsUnsampled is_size choice_limits residue_limits has answers samples
+  pub map_is_unsampled : ((size : Size) → is_size size → IsKeptByRenumbering (has size)) → EachMapIsUnsampled is_size choice_limits residue_limits has answers samples
   map_is_unsampled kept size map residue is rooted in_class valid =
       let named : (canonical : RotationSystem) × IsCanonicalOf map canonical = canonical_map_exists map rooted in
       let after : IsRootedMap named.0 = canonical_map_is_rooted map named.0 rooted named.1 in

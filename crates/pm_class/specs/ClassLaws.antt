@@ -6,8 +6,8 @@ use Rattle.pm_map.specs.Structure.{Same}
 use Rattle.pm_map.specs.Rotation.{RotationSystem, structure_of, IsRootedMap}
 
 -- a map that differs only in the names of darts is in the class and has the size too
-abbrev pub IsKept : (RotationSystem → Type 0) → Type 0
-IsKept has = (map other : RotationSystem) → IsRootedMap map → IsRootedMap other → Same (structure_of map) (structure_of other) → has map → has other
+abbrev pub IsKeptByRenumbering : (RotationSystem → Type 0) → Type 0
+IsKeptByRenumbering has = (map other : RotationSystem) → IsRootedMap map → IsRootedMap other → Same (structure_of map) (structure_of other) → has map → has other
 
 -- the bounds of the choices and those of the residues are not too many, and those of the residues are not too great
 pub record AreLimits (choices residues : List ℕ) : Type 0 where

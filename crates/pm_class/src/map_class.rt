@@ -3,7 +3,7 @@ ghost use Rattle.std.specs.Prelude.{◌≡◌, ◌↔◌, ℕ, List, Result, Ok,
 ghost use Rattle.pm_lists.specs.Valid.{IsValidList};
 ghost use Rattle.pm_map.specs.Rotation.{RotationSystem};
 ghost use Rattle.pm_map.specs.declared.class_refusal.ClassRefusal.{ClassRefusal};
-ghost use Rattle.pm_class.specs.ClassLaws.{IsKept, AreLimits, HasMostEdges};
+ghost use Rattle.pm_class.specs.ClassLaws.{IsKeptByRenumbering, AreLimits, HasMostEdges};
 ghost use Rattle.pm_class.specs.OneToOne.{AreOneToOne};
 ghost use Rattle.pm_class.specs.Sampling.{IsSampled, IsSampling, IsSizeWhereAnswered, HasOneAnswer};
 ghost use Rattle.pm_class.specs.Unsampling.{IsUnsampled, IsUnsampling};
@@ -147,7 +147,7 @@ pub trait MapClass {
         ensures sized { IsSizeWhereAnswered is_size has answers }
         ensures one_answer { HasOneAnswer answers }
         ensures one_to_one { (size : Self.Size) → is_size size → AreOneToOne (choice_limits size) (residue_limits size) (has size) (samples size) }
-        ensures kept { (size : Self.Size) → is_size size → IsKept (has size) }
+        ensures kept { (size : Self.Size) → is_size size → IsKeptByRenumbering (has size) }
         ensures limits { (size : Self.Size) → is_size size → AreLimits (choice_limits size) (residue_limits size) }
         ensures most_edges { HasMostEdges is_size has MOST_EDGES };
 }

@@ -84,7 +84,7 @@ quartic_closure word map n tree balanced none long c =
     let filled : 0 < length map.sigma = omega arith in
     let four : 4 * vertices (structure_of map) ≡ length map.sigma = four_each (structure_of map) rooted.structure filled fours in
     record {
-      plane = record { connected = rooted.connected; euler = rooted.euler };
+      plane = record { structure = rooted.structure; connected = rooted.connected; euler = rooted.euler };
       some = filled;
       count = quarters (vertices (structure_of map)) (length map.sigma) n four darts;
       degrees = fours;

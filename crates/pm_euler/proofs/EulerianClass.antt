@@ -1,5 +1,5 @@
 -- The laws of maps with given even degrees as a class.
-use Rattle.std.proofs.Common.{◌≡◌, ℕ, zero, suc, ◌-◌, ◌*◌, ◌<◌, ◌≤◌, List, [], ◌∷◌, ◌++◌, length, length-append, refl, ◌∙◌, arith}
+use Rattle.std.proofs.Common.{◌≡◌, ℕ, zero, suc, ◌-◌, ◌*◌, ◌<◌, ◌≤◌, List, [], ◌∷◌, ◌++◌, length, length-append, refl, arith}
 use Rattle.std.specs.Prelude.{All, flat_map}
 use Rattle.std.specs.List.{sum_by}
 use Rattle.std.proofs.lemmas.List.Elements.{All-append, All-nil, All-cons}
@@ -7,11 +7,11 @@ use Rattle.std.proofs.lemmas.List.Sums.{sum_by-cons}
 use Rattle.pm_limits.specs.declared.TheConstants.{MAX_EDGES}
 use Rattle.pm_map.specs.Rotation.{structure_of}
 use Rattle.pm_map.specs.Classes.{IsEulerian, vertices_of_degree}
-use Rattle.pm_map.proofs.CarriedDegrees.{degrees_carried}
+use Rattle.pm_map.proofs.ClassesKept.{eulerian_kept}
 use Rattle.pm_map.proofs.DegreesTaken.{darts_below, darts_below-more, darts_below-bound}
-use Rattle.pm_trees.specs.Pairs.{IsProfile, IsRightPair, edges_of, pair_at}
+use Rattle.pm_trees.specs.Pairs.{IsProfile, IsRightPair, edges_of}
 use Rattle.pm_trees.proofs.CountedPairs.{sum_bounded}
-use Rattle.pm_class.specs.ClassLaws.{IsKept, AreLimits, HasMostEdges}
+use Rattle.pm_class.specs.ClassLaws.{IsKeptByRenumbering, AreLimits, HasMostEdges}
 use Rattle.pm_class.specs.OneToOne.{AreOneToOne}
 use Rattle.pm_class.proofs.OneToOneLemmas.{one_to_one}
 use Rattle.pm_euler.specs.Bounds.{code_bounds, eulerian_choices, eulerian_residues}
@@ -30,19 +30,8 @@ eulerian_one_to_one pairs is =
     one_to_one (eulerian_choices pairs) (eulerian_residues pairs) (λ m. IsEulerian (structure_of m) pairs) (SamplesEulerian pairs) (λ choices map residue given. given.valid)
     (each_eulerian_list_is_sampled pairs is) (each_eulerian_pair pairs is) (one_eulerian_sample pairs is) (one_eulerian_list pairs is)
 
-pub eulerian_kept : (pairs : List (ℕ × ℕ)) → IsKept (λ m. IsEulerian (structure_of m) pairs)
-eulerian_kept pairs map other rooted after same is =
-    let degrees : (degree : ℕ) → vertices_of_degree (structure_of other) degree ≡ vertices_of_degree (structure_of map) degree = degrees_carried (structure_of map) (structure_of other) rooted.structure after.structure same in
-    record {
-      plane = record { connected = after.connected; euler = after.euler };
-      degrees = record {
-        rising = is.degrees.rising;
-        some = is.degrees.some;
-        even = is.degrees.even;
-        counts = λ k less. degrees (pair_at pairs k).0 ∙ is.degrees.counts k less;
-        others = λ degree none. degrees degree ∙ is.degrees.others degree none;
-      };
-    }
+pub eulerian_kept_by_renumbering : (pairs : List (ℕ × ℕ)) → IsKeptByRenumbering (λ m. IsEulerian (structure_of m) pairs)
+eulerian_kept_by_renumbering pairs map other rooted after = eulerian_kept pairs (structure_of map) (structure_of other) rooted.structure after.structure
 
 -- the bounds of the codes by degree are as many as the nodes, and as low
 codes_low : (most : ℕ) (pairs : List (ℕ × ℕ)) → sum_by (λ (p : ℕ × ℕ). p.1) pairs ≤ most → All (λ bound. bound ≤ most) (flat_map (λ (p : ℕ × ℕ). code_bounds p.1) pairs)

@@ -132,7 +132,7 @@ profile_of_table m table pairs rooted darts admitted t l =
     let c = table_counts m table pairs rooted darts admitted t l in (
       eulerian_profile m pairs rooted darts admitted c,
       record {
-        plane = record { connected = rooted.connected; euler = rooted.euler };
+        plane = record { structure = rooted.structure; connected = rooted.connected; euler = rooted.euler };
         degrees = degrees_of_counted (structure_of m) pairs (λ degree some. (even_degrees (structure_of m) rooted.structure darts admitted degree some).even) c;
       },
     )

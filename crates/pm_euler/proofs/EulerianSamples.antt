@@ -79,7 +79,7 @@ sampled_class pairs ranks objects word free turned old_plant map is tree has pla
     let rooted = canonical_closure_is_rooted turned map alike.blossoming balanced closed in
     let degrees : (degree : ℕ) → vertices_of_degree (structure_of map) degree ≡ nodes_of word degree = λ degree. closure_degrees turned map alike.blossoming balanced closed degree ∙ alike.degrees degree in
     record {
-      plane = record { connected = rooted.connected; euler = rooted.euler };
+      plane = record { structure = rooted.structure; connected = rooted.connected; euler = rooted.euler };
       degrees = record {
         rising = λ k less. (is.are_pairs.right (suc k) less).rising;
         some = λ k less. (is.are_pairs.right k less).counted;

@@ -1,14 +1,11 @@
 -- The laws of quartic maps as a class.
-use Rattle.std.proofs.Common.{◌≡◌, ℕ, ◌+◌, ◌*◌, ◌/◌, ◌<◌, ◌≤◌, length, sym, ◌∙◌, arith}
-use Rattle.std.specs.Prelude.{slice_index}
+use Rattle.std.proofs.Common.{ℕ, ◌+◌, ◌*◌, ◌/◌, ◌≤◌, arith}
 use Rattle.std.proofs.lemmas.List.Elements.{All-cons}
 use Rattle.pm_limits.specs.declared.TheConstants.{MAX_EDGES}
-use Rattle.pm_map.specs.CycleSize.{IsCycleSize}
-use Rattle.pm_map.specs.Plane.{vertices}
 use Rattle.pm_map.specs.Rotation.{structure_of}
 use Rattle.pm_map.specs.Classes.{IsQuartic}
-use Rattle.pm_map.proofs.CarriedSizes.{sizes_carried}
-use Rattle.pm_class.specs.ClassLaws.{IsKept, AreLimits, HasMostEdges}
+use Rattle.pm_map.proofs.ClassesKept.{quartic_kept}
+use Rattle.pm_class.specs.ClassLaws.{IsKeptByRenumbering, AreLimits, HasMostEdges}
 use Rattle.pm_class.specs.OneToOne.{AreOneToOne}
 use Rattle.pm_class.proofs.OneToOneLemmas.{one_to_one}
 use Rattle.pm_euler.specs.Bounds.{code_bounds, quartic_choices, quartic_residues}
@@ -16,7 +13,6 @@ use Rattle.pm_euler.specs.Quartic.{IsQuarticSize, SamplesQuartic}
 use Rattle.pm_euler.proofs.BoundLemmas.{quartic_choices_are, quartic_residues_are, length-quartic_choices, length-code_bounds, code_bounds_low}
 use Rattle.pm_euler.proofs.OneSample.{one_quartic_sample}
 use Rattle.pm_euler.proofs.QuarticLists.{quartic_darts, each_quartic_pair, one_quartic_list}
-use Rattle.pm_euler.proofs.QuarticMaps.{four_each}
 use Rattle.pm_euler.proofs.QuarticSamples.{each_quartic_list_is_sampled}
 
 pub quartic_one_to_one : (n : ℕ) → IsQuarticSize n → AreOneToOne (quartic_choices n) (quartic_residues n) (λ m. IsQuartic (structure_of m) n) (SamplesQuartic n)
@@ -24,19 +20,8 @@ quartic_one_to_one n size =
     one_to_one (quartic_choices n) (quartic_residues n) (λ m. IsQuartic (structure_of m) n) (SamplesQuartic n) (λ choices map residue given. given.valid) (each_quartic_list_is_sampled n size)
     (each_quartic_pair n) (one_quartic_sample n size) (one_quartic_list n size)
 
-pub quartic_kept : (n : ℕ) → IsKept (λ m. IsQuartic (structure_of m) n)
-quartic_kept n map other rooted after same is =
-    let sizes : (d : ℕ) → d < length other.sigma → IsCycleSize (slice_index other.sigma) d 4 = sizes_carried (structure_of map) (structure_of other) 4 rooted.structure same is.degrees in
-    let darts : length map.sigma ≡ length other.sigma = same.1.darts in
-    let some : 0 < length other.sigma = (let here = is.some in omega (arith, here, darts)) in
-    record {
-      plane = record { connected = after.connected; euler = after.euler };
-      some = some;
-      count = quarters (vertices (structure_of other)) (length other.sigma) (four_each (structure_of other) after.structure some sizes) (sym darts ∙ quartic_darts map n rooted is);
-      degrees = sizes;
-    } where
-      quarters : (v darts : ℕ) → 4 * v ≡ darts → darts ≡ 4 * n → v ≡ n
-      quarters v darts four e = omega arith
+pub quartic_kept_by_renumbering : (n : ℕ) → IsKeptByRenumbering (λ m. IsQuartic (structure_of m) n)
+quartic_kept_by_renumbering n map other rooted after = quartic_kept n (structure_of map) (structure_of other) rooted.structure after.structure
 
 pub quartic_limits : (n : ℕ) → IsQuarticSize n → AreLimits (quartic_choices n) (quartic_residues n)
 quartic_limits n size =

@@ -30,7 +30,7 @@ quartic_of_degrees m edges rooted twice some admitted =
     let filled : 0 < length m.sigma = omega arith in
     let four : 4 * vertices (structure_of m) ≡ length m.sigma = four_each (structure_of m) rooted.structure filled sizes in
     record {
-      plane = record { connected = rooted.connected; euler = rooted.euler };
+      plane = record { structure = rooted.structure; connected = rooted.connected; euler = rooted.euler };
       some = filled;
       count = halves (vertices (structure_of m)) edges (length m.sigma) four twice;
       degrees = sizes;

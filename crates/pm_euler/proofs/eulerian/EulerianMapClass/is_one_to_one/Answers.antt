@@ -1,4 +1,4 @@
-use Rattle.pm_euler.proofs.EulerianClass.{eulerian_one_to_one, eulerian_kept, eulerian_limits, eulerian_most_edges}
+use Rattle.pm_euler.proofs.EulerianClass.{eulerian_one_to_one, eulerian_kept_by_renumbering, eulerian_limits, eulerian_most_edges}
 use Rattle.pm_euler.proofs.EulerianMaps.{eulerian_where_answered, one_eulerian_answer}
 use Rattle.pm_euler.proofs.eulerian.EulerianMapClass.is_one_to_one.Goals as goal
 
@@ -12,7 +12,7 @@ pub returns-clause-one_to_one : goal.returns-clause-one_to_one
 returns-clause-one_to_one c = eulerian_one_to_one
 
 pub returns-clause-kept : goal.returns-clause-kept
-returns-clause-kept c pairs is = eulerian_kept pairs
+returns-clause-kept c pairs is = eulerian_kept_by_renumbering pairs
 
 pub returns-clause-limits : goal.returns-clause-limits
 returns-clause-limits c = eulerian_limits

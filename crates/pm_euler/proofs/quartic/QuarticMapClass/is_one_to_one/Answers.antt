@@ -1,4 +1,4 @@
-use Rattle.pm_euler.proofs.QuarticClass.{quartic_one_to_one, quartic_kept, quartic_limits, quartic_most_edges}
+use Rattle.pm_euler.proofs.QuarticClass.{quartic_one_to_one, quartic_kept_by_renumbering, quartic_limits, quartic_most_edges}
 use Rattle.pm_euler.proofs.QuarticMaps.{size_where_answered, one_quartic_answer}
 use Rattle.pm_euler.proofs.quartic.QuarticMapClass.is_one_to_one.Goals as goal
 
@@ -12,7 +12,7 @@ pub returns-clause-one_to_one : goal.returns-clause-one_to_one
 returns-clause-one_to_one c = quartic_one_to_one
 
 pub returns-clause-kept : goal.returns-clause-kept
-returns-clause-kept c size is = quartic_kept size
+returns-clause-kept c size is = quartic_kept_by_renumbering size
 
 pub returns-clause-limits : goal.returns-clause-limits
 returns-clause-limits c = quartic_limits
