@@ -46,7 +46,7 @@ distances_colour s level plane degrees far =
     record {
       root = λ some. even_zero (level s.root) (levels.root some);
       around = λ d h. ap even (levels.around d h);
-      across = λ d h. even_next (level d) (level (s.twin d)) (differ_by_one s is plane degrees d (level d) (level (s.twin d)) h (far d h) (far (s.twin d) (is.twin_stays d h)));
+      across = λ d h. even_next (level d) (level (s.twin d)) (differ_by_one s plane degrees d (level d) (level (s.twin d)) h (far d h) (far (s.twin d) (is.twin_stays d h)));
     }
 
 -- around a vertex the colours take turns, so its degree is even

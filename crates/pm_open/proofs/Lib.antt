@@ -5,7 +5,7 @@ mod Folded
 pub mod KeptByOpening
 mod KeptEdges
 mod LevelsAlong
-mod OneApart
+pub mod OneApart
 mod OneOpening
 mod Opened
 mod OpenedWalk
