@@ -22,6 +22,7 @@ BLOCK = 65536
 DEEP_NODES = [10_000, 50_000, 200_000]
 WIDE_HUBS = [106, 1_064, 4_255]
 MAP_NODES = [5_000, 50_000, 500_000]
+LARGEST_NODES = 1_000_000
 SAMPLE_NODES = [1_000, 10_000, 100_000, 1_000_000]
 PROFILE_NODES = [1_000, 10_000, 100_000, 300_000]
 PROFILE_DEGREES = [[4], [2, 4, 6]]
@@ -213,10 +214,12 @@ def tables(program):
     degrees: beside H hubs of degree 64, 31 H + 1 nodes have degree 4."""
     deep = [Case(f"{nodes:,}", 2 * nodes, [maker("trees.py", "deep", nodes)]) for nodes in DEEP_NODES]
     wide = [Case(f"{hubs:,}", 94 * hubs + 2, [maker("trees.py", "wide", hubs)]) for hubs in WIDE_HUBS]
-    maps = []
-    for nodes in MAP_NODES:
+    def renamed(nodes):
         steps = [maker("trees.py", "deep", nodes), [program, "close", "eulerian"], maker("maps.py")]
-        maps.append(Case(f"{nodes:,}", 2 * nodes, steps))
+        return Case(f"{nodes:,}", 2 * nodes, steps)
+
+    maps = [renamed(nodes) for nodes in MAP_NODES]
+    more = maps + [renamed(LARGEST_NODES)]
     samples = [Case(str(nodes), 2 * nodes, [maker("choices.py", "quartic", nodes)]) for nodes in SAMPLE_NODES]
     profiles = []
     for degrees in PROFILE_DEGREES:
@@ -234,6 +237,9 @@ def tables(program):
         ("Maps, `check general`", lambda case: ["check", "general"], maps),
         ("Choices, `sample quartic`", lambda case: ["sample", "quartic", case.label], samples),
         ("Choices, `sample eulerian`", lambda case: ["sample", "eulerian", case.label], profiles),
+        ("Maps, `medial`", lambda case: ["medial"], more),
+        ("Maps, `unmedial`", lambda case: ["unmedial"], more),
+        ("Maps, `dual`", lambda case: ["dual"], more),
         ("Maps, `open eulerian`", lambda case: ["open", "eulerian"], maps),
         ("Samples, `unsample quartic`", lambda case: ["unsample", "quartic"], [sampled(case, "quartic") for case in samples]),
         ("Samples, `unsample eulerian`", lambda case: ["unsample", "eulerian"], [sampled(case, "eulerian") for case in profiles]),

@@ -7,7 +7,7 @@ use Rattle.std.proofs.lemmas.List.Elements.{All-head, All-tail}
 use Rattle.pm_perm.specs.Count.{count_below}
 use Rattle.pm_perm.specs.Permutation.{IsPermutationBelow, IsPermutationList}
 use Rattle.pm_perm.specs.Cycles.{cycles}
-use Rattle.pm_perm.proofs.Counts.{count_below-same}
+use Rattle.pm_perm.proofs.Counts.{count_below-same, count_below-add, count_below-zero}
 use Rattle.pm_perm.proofs.InverseLemmas.{standing_permutes, place_of, place_of-permutes, value-place_of}
 use Rattle.pm_perm.proofs.LeaderMaps.{IsLeaderMap, cycles-count}
 use Rattle.pm_perm.proofs.Renumbered.{cycles-carried}
@@ -130,29 +130,13 @@ first_is_leader_map sizes = record {
   joins = λ value kept k h. first_joins sizes value kept.along k h;
 }
 
--- counts below a sum
-count_below-add : (P : ℕ → Bool) (a b : ℕ) → count_below P (a + b) ≡ count_below P a + count_below (λ k. P (a + k)) b
-count_below-add P a zero = let e : a + 0 ≡ a = omega arith in ap (count_below P) e ∙ plain (count_below P a) where
-  plain : (x : ℕ) → x ≡ x + 0
-  plain x = omega arith
-count_below-add P a (suc b) = let e : a + suc b ≡ suc (a + b) = omega arith in ap (count_below P) e ∙ step (count_below-add P a b) where
-  step : count_below P (a + b) ≡ count_below P a + count_below (λ k. P (a + k)) b → count_below P (suc (a + b)) ≡ count_below P a + count_below (λ k. P (a + k)) (suc b)
-  step h = omega (arith, h)
-
-zero_counts : (n : ℕ) → 0 < n → count_below (λ d. eqb 0 d) n ≡ 1
-zero_counts zero h = absurd (omega arith)
-zero_counts (suc zero) h = refl
-zero_counts (suc (suc n)) h = more n (zero_counts (suc n) (omega arith)) where
-  more : (n : ℕ) → count_below (λ d. eqb 0 d) (suc n) ≡ 1 → count_below (λ d. eqb 0 d) (suc (suc n)) ≡ 1
-  more n e = grind arith
-
 -- there are as many first places as lines
 firsts_counted : (sizes : List ℕ) → All (λ size. 0 < size) sizes → count_below (λ d. eqb (first_place sizes d) d) (sum sizes) ≡ length sizes
 firsts_counted [] some = refl
 firsts_counted (size ∷ sizes) some =
     let P : ℕ → Bool = λ d. eqb (first_place (size ∷ sizes) d) d in
     let here : count_below P size ≡ 1 =
-    count_below-same P (λ d. eqb 0 d) size (λ k h. ap (λ x. eqb x k) (first_here size sizes k h)) ∙ zero_counts size (All-head (λ size. 0 < size) size sizes some) in
+    count_below-same P (λ d. eqb 0 d) size (λ k h. ap (λ x. eqb x k) (first_here size sizes k h)) ∙ count_below-zero size (All-head (λ size. 0 < size) size sizes some) in
     let rest : count_below (λ k. P (size + k)) (sum sizes) ≡ length sizes =
     count_below-same (λ k. P (size + k)) (λ k. eqb (first_place sizes k) k) (sum sizes) (λ k h. shifted k) ∙ firsts_counted sizes (All-tail (λ size. 0 < size) size sizes some) in
     ap (count_below P) (sum-cons size sizes) ∙ count_below-add P size (sum sizes) ∙ omega (arith, here, rest) where

@@ -108,6 +108,19 @@ module _ (q m : Structure) (plus : ℕ → Bool) (name : ℕ → ℕ) (is : IsSt
   plus_twin : (d : ℕ) → d < q.darts → plus d ≡ true → plus (q.twin d) ≡ false
   plus_twin d h positive = signed.across d h ∙ ap not positive
 
+  -- the plus before a plus comes back to it, by way of the minus that follows it
+  after_twin_of_next : (p : ℕ) → p < q.darts → plus p ≡ true → m.next (name (q.twin (q.next p))) ≡ name p
+  after_twin_of_next p h positive =
+      let stays = is.rotation.stays p h in
+      let minus : plus (q.next p) ≡ false = next_turns q is plus signed p h ∙ ap not positive in
+      half.next (q.twin (q.next p)) (is.twin_stays (q.next p) stays) (minus_twin (q.next p) stays minus)
+      ∙ ap (λ e. name (q.next (q.next (q.next e)))) (is.twin_back (q.next p) stays) ∙ ap name (four_back p h)
+
+  -- after the twin of a minus comes the plus before the minus
+  after_twin : (d : ℕ) → d < q.darts → plus d ≡ false → m.next (name (q.twin d)) ≡ name (q.next (q.next (q.next d)))
+  after_twin d h negative =
+      half.next (q.twin d) (is.twin_stays d h) (minus_twin d h negative) ∙ ap (λ e. name (q.next (q.next (q.next e)))) (is.twin_back d h)
+
   -- where the darts of the quartic structure go in the medial one: a plus to the plus of its name, a minus to the minus of
   -- the name of its twin
   pub to_medial : ℕ → ℕ
@@ -141,8 +154,7 @@ module _ (q m : Structure) (plus : ℕ → Bool) (name : ℕ → ℕ) (is : IsSt
         let other = q.twin (q.next p) in
         let within = is.twin_stays (q.next p) stays in
         let sign = minus_twin (q.next p) stays minus in
-        let back : m.next (name other) ≡ name p =
-        half.next other within sign ∙ ap (λ e. name (q.next (q.next (q.next e)))) (is.twin_back (q.next p) stays) ∙ ap name (four_back p h) in
+        let back : m.next (name other) ≡ name p = after_twin_of_next p h positive in
         of_minus (q.next p) minus ∙ sym (of.after_plus (name other) (name_stays other within sign)) ∙ ap (λ e. medial.next (2 * e)) back ∙ ap medial.next (sym (of_plus p positive)))
         (λ d h negative.
         let stays = is.rotation.stays d h in
@@ -151,7 +163,7 @@ module _ (q m : Structure) (plus : ℕ → Bool) (name : ℕ → ℕ) (is : IsSt
         let within = is.twin_stays d h in
         let sign = minus_twin d h negative in
         let earlier = q.next (q.next (q.next d)) in
-        let here : m.next (name other) ≡ name earlier = half.next other within sign ∙ ap (λ e. name (q.next (q.next (q.next e)))) (is.twin_back d h) in
+        let here : m.next (name other) ≡ name earlier = after_twin d h negative in
         let there : earlier < q.darts = three_stays q is plus signed d h in
         let earlier_plus : plus earlier ≡ true = two_on q is plus signed (q.next d) stays ∙ plus_next in
         of_plus (q.next d) plus_next ∙ ap (λ e. 2 * name (q.next e)) (sym (four_back d h)) ∙ ap (λ e. 2 * e) (sym (half.twin earlier there earlier_plus)) ∙ ap (λ e. 2 * m.twin e) (sym here)
@@ -203,8 +215,7 @@ module _ (q m : Structure) (plus : ℕ → Bool) (name : ℕ → ℕ) (is : IsSt
       let other = q.twin (q.next p) in
       let within = is.twin_stays (q.next p) stays in
       let sign = minus_twin (q.next p) stays minus in
-      let back : m.next (name other) ≡ name p =
-      half.next other within sign ∙ ap (λ e. name (q.next (q.next (q.next e)))) (is.twin_back (q.next p) stays) ∙ ap name (four_back p l) in
+      let back : m.next (name other) ≡ name p = after_twin_of_next p l positive in
       subst IsTrue (sym (at_minus (q.next p) minus))
       (closed_back m.darts m.next holds rotation closed.under_next (name other) (half.stays other within sign)
       (subst (λ e. IsTrue (holds e)) (sym back) (subst IsTrue (at_plus p positive) test))))
@@ -216,7 +227,7 @@ module _ (q m : Structure) (plus : ℕ → Bool) (name : ℕ → ℕ) (is : IsSt
       let earlier = q.next (q.next (q.next d)) in
       let there : earlier < q.darts = three_stays q is plus signed d l in
       let earlier_plus : plus earlier ≡ true = two_on q is plus signed (q.next d) (is.rotation.stays d l) ∙ plus_next in
-      let here : m.next (name other) ≡ name earlier = half.next other within sign ∙ ap (λ e. name (q.next (q.next (q.next e)))) (is.twin_back d l) in
+      let here : m.next (name other) ≡ name earlier = after_twin d l negative in
       let next_test : IsTrue (holds (name earlier)) =
       subst (λ e. IsTrue (holds e)) here (closed.under_next (name other) (half.stays other within sign) (subst IsTrue (at_minus d negative) test)) in
       let twin_test : IsTrue (holds (name (q.next (q.next earlier)))) =
