@@ -15,3 +15,4 @@ pub mod TextAnswers
 pub mod OneAnswer
 pub mod ReadAgainLemmas
 pub mod CanonicalTexts
+pub mod TextLengths

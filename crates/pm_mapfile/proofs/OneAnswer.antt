@@ -7,7 +7,6 @@ use Rattle.std.proofs.lemmas.List.{ext_get_or}
 use Rattle.std.proofs.lemmas.List.Elements.{All-head, All-tail}
 use Rattle.pm_text.specs.Broken.{newline}
 use Rattle.pm_text.proofs.BrokenLemmas.{valid_has_no_broken_line, broken_line_is_unique}
-use Rattle.pm_lists.specs.declared.num_list.NumList.{NumList}
 use Rattle.pm_lists.specs.ListLine.{SpellsList, list_line}
 use Rattle.pm_lists.proofs.SpellingLemmas.{line_is_read_again, line_has_no_newline, spells_one_list, tag_parts}
 use Rattle.pm_map.specs.declared.rooted_map.RootedMap.{RootedMap}

@@ -1,9 +1,9 @@
 -- Map files: which bytes are the text of a map, line by line. Whether the vertices make a map is no matter of the text.
-use Rattle.std.specs.Prelude.{◌≡◌, ℕ, ◌+◌, ◌*◌, ◌<◌, ◌≤◌, ◌^◌, List, [], ◌∷◌, ◌++◌, All, Option, Some, None, MatchOption, ⊤, length, map, take, codes}
+use Rattle.std.specs.Prelude.{◌≡◌, ℕ, ◌*◌, ◌<◌, ◌^◌, List, [], ◌∷◌, ◌++◌, All, Option, Some, None, MatchOption, ⊤, length, codes}
 use Rattle.std.specs.List.{concat}
 use Rattle.pm_text.specs.Broken.{newline}
 use Rattle.pm_lists.specs.ListLine.{AreWords, list_line}
-use Rattle.pm_mapfile.specs.MapText.{dart_words, map_line, vertex_lines}
+use Rattle.pm_mapfile.specs.MapText.{map_line, vertex_lines}
 
 -- what the lines of a map text say: the number of edges, the root, and the darts on the line of each vertex
 pub record MapLines : Type 0 where

@@ -1,8 +1,7 @@
 -- The text of a map: a line `map E R` with the number of edges and the root, a line for each vertex, and a line `end`.
 use Rattle.std.specs.Prelude.{◌≡◌, ℕ, ◌/◌, List, [], ◌∷◌, ◌++◌, length, decimal, codes}
-use Rattle.pm_map.specs.Structure.{Structure}
 use Rattle.pm_map.specs.Rotation.{RotationSystem, structure_of}
-use Rattle.pm_map.specs.Meeting.{IsMeetingList, IsVertexFrom}
+use Rattle.pm_map.specs.Meeting.{IsMeetingList}
 
 -- a space before each dart (32 is the space, 10 the newline)
 abbrev pub dart_words : List ℕ → List ℕ

@@ -1,10 +1,9 @@
 -- Writing the rotation of a dual, dart by dart.
-use Rattle.std.proofs.Common.{◌≡◌, ℕ, suc, ◌+◌, ◌*◌, ◌<◌, ◌≤◌, List, [], ◌∷◌, ◌++◌, length, length-append, get_or, inl, inr, sym, ap, ◌∙◌, subst, arith}
+use Rattle.std.proofs.Common.{◌≡◌, ℕ, ◌+◌, List, [], ◌∷◌, ◌++◌, length, length-append, get_or, inl, inr, sym, ap, ◌∙◌, arith}
 use Rattle.std.proofs.lemmas.Bool.{cases_eq}
 use Rattle.std.proofs.lemmas.List.{get_or_append_left, get_or_push}
-use Rattle.pm_map.specs.Rotation.{RotationSystem, twin, IsRootedMap}
+use Rattle.pm_map.specs.Rotation.{RotationSystem, twin}
 use Rattle.pm_map.specs.DualLaws.{IsDualOf}
-use Rattle.pm_map.proofs.DualMaps.{dual_is_rooted}
 use Rattle.pm_medial.specs.steps.Written.{IsDualRotation}
 
 pub turned_more : (sigma rotation : List ℕ) (dart after : ℕ) → IsDualRotation sigma rotation dart → after ≡ get_or sigma (twin dart) 0

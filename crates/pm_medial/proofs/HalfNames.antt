@@ -1,19 +1,19 @@
 -- The pluses of a quartic map, one for each edge, and the map whose darts they are.
-use Rattle.std.proofs.Common.{◌≡◌, ℕ, suc, ◌*◌, ◌/◌, ◌%◌, ◌<◌, inl, inr, Bool, true, false, not, cond, List, length, map, slice_index, refl, sym, ap, ◌∙◌, subst, arith}
+use Rattle.std.proofs.Common.{◌≡◌, ℕ, suc, ◌*◌, ◌/◌, ◌<◌, inl, inr, Bool, true, not, length, map, slice_index, refl, sym, ap, ◌∙◌, subst, arith}
 use Rattle.std.specs.List.{range_with_len}
 use Rattle.std.proofs.lemmas.Bool.{cases_Bool, cond-true, cond-false}
 use Rattle.std.proofs.lemmas.List.FromFn.{get_or-map-range_with_len, length-map-range_with_len}
 use Rattle.pm_perm.specs.Permutation.{IsPermutationBelow}
 use Rattle.pm_perm.proofs.InverseLemmas.{place_of, place_of-of_value, place_of-stays, value-place_of}
 use Rattle.pm_perm.proofs.Interleaved.{parity, is_even, is_odd}
-use Rattle.pm_map.specs.Structure.{Structure, IsStructure}
+use Rattle.pm_map.specs.Structure.{Structure}
 use Rattle.pm_map.specs.Rotation.{RotationSystem, structure_of, twin, IsRootedMap}
 use Rattle.pm_map.specs.CycleSize.{IsCycleSize}
 use Rattle.pm_map.specs.EdgeNumbers.{IsTwinning, dart_of}
 use Rattle.pm_map.proofs.NumberedEdges.{dart_of_permutes, dart_of-twin}
 use Rattle.pm_medial.specs.Colouring.{IsColouring}
 use Rattle.pm_medial.specs.steps.Halved.{IsHalfOf, IsHalfMap, plus_of, edge_two_on, edge_before}
-use Rattle.pm_medial.proofs.SignedDarts.{two_on, three_on, two_stays, three_stays}
+use Rattle.pm_medial.proofs.SignedDarts.{two_on, two_stays}
 
 module _ (q : RotationSystem) (rooted : IsRootedMap q) (plus : ℕ → Bool) (signed : IsColouring (structure_of q) plus)
     (four : (d : ℕ) → d < length q.sigma → IsCycleSize (slice_index q.sigma) d 4) where

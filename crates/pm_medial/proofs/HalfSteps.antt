@@ -1,24 +1,16 @@
 -- The loops of colouring and of taking half of the darts: one entry more, and what stands at the end.
-use Rattle.std.proofs.Common.{◌≡◌, ℕ, suc, ◌+◌, ◌*◌, ◌/◌, ◌%◌, ◌<◌, ◌≤◌, inl, inr, Bool, true, false, not, List, [], ◌∷◌, ◌++◌, length, length-set, length-append, get_or, set, slice_index, refl, sym, ap, ◌∙◌, subst, arith}
+use Rattle.std.proofs.Common.{◌≡◌, ℕ, ◌+◌, ◌<◌, inl, inr, Bool, false, not, List, [], ◌∷◌, ◌++◌, length, length-set, length-append, get_or, set, slice_index, refl, sym, ap, ◌∙◌, arith}
 use Rattle.std.specs.Prelude.{slice_index_or}
 use Rattle.std.proofs.lemmas.Bool.{cases_eq}
 use Rattle.std.proofs.lemmas.List.{get_or_append_left, get_or_push, get_or-set_same, get_or-set_other}
 use Rattle.pm_perm.specs.Permutation.{IsPermutationList}
-use Rattle.pm_map.specs.Structure.{Structure}
-use Rattle.pm_map.specs.Plane.{IsPlane}
 use Rattle.pm_map.specs.Rotation.{RotationSystem, structure_of, twin, IsRootedMap}
-use Rattle.pm_map.specs.CycleSize.{IsCycleSize}
-use Rattle.pm_map.specs.EdgeNumbers.{IsTwinning, dart_of}
 use Rattle.pm_map.proofs.CarriedStructure.{rooted_is_plane}
-use Rattle.pm_map.proofs.NumberedEdges.{dart_of_permutes, dart_of-same}
 use Rattle.pm_open.specs.AcrossEdges.{AllDegreesAreEven}
 use Rattle.pm_open.specs.Distances.{AreFaceDistances}
-use Rattle.pm_medial.specs.Medial.{IsUnmedialOf}
-use Rattle.pm_medial.specs.Colouring.{IsColouring, AreColours}
-use Rattle.pm_medial.specs.steps.Halved.{edge_two_on, edge_before, AreEdgesTwoOn, IsHalfRotation, IsHalfMap}
+use Rattle.pm_medial.specs.Colouring.{AreColours}
+use Rattle.pm_medial.specs.steps.Halved.{edge_two_on, edge_before, IsHalfRotation}
 use Rattle.pm_medial.proofs.TwoColours.{even, distances_colour}
-use Rattle.pm_medial.proofs.HalfNames.{edges_twin}
-use Rattle.pm_medial.proofs.UnmedialLaws.{half_is_unmedial}
 
 -- one entry more at the end of a list
 pushed : {A : Type 0} (default : A) (xs : List A) (x : A) (value : ℕ → A) (bound : ℕ) → length xs ≡ bound → ((k : ℕ) → k < bound → get_or xs k default ≡ value k) → x ≡ value bound

@@ -1,17 +1,16 @@
 -- The structure that is told by the pluses of a quartic map is a plane structure, whose medial structure is the same as the
 -- map.
-use Rattle.std.proofs.Common.{◌≡◌, ℕ, zero, suc, ◌+◌, ◌*◌, ◌/◌, ◌%◌, ◌<◌, ◌≤◌, inl, inr, Bool, true, false, not, cond, eqb, IsTrue, refl, sym, ap, ◌∙◌, subst, arith}
+use Rattle.std.proofs.Common.{◌≡◌, ℕ, zero, suc, ◌+◌, ◌*◌, ◌/◌, ◌%◌, ◌<◌, inl, inr, Bool, true, false, not, cond, eqb, IsTrue, refl, sym, ap, ◌∙◌, subst, arith}
 use Rattle.std.proofs.lemmas.Bool.{cases_Bool, cond-true, cond-false, ne_eqb}
 use Rattle.pm_perm.specs.Permutation.{IsPermutationBelow}
 use Rattle.pm_perm.specs.Cycles.{repeated}
 use Rattle.pm_perm.proofs.Repeats.{repeated-inside}
 use Rattle.pm_perm.proofs.InverseLemmas.{place_of, place_of-of_value}
 use Rattle.pm_perm.proofs.SameCycle.{in_cycle-back}
-use Rattle.pm_map.specs.Structure.{Structure, IsStructure, IsConnected, IsClosedSet, CarriesTo, Same, face_next}
-use Rattle.pm_map.specs.Plane.{IsPlane, vertices, edges, faces}
+use Rattle.pm_map.specs.Structure.{Structure, IsStructure, IsConnected, CarriesTo}
+use Rattle.pm_map.specs.Plane.{IsPlane, vertices, faces}
 use Rattle.pm_map.specs.CycleSize.{IsCycleSize}
-use Rattle.pm_map.specs.Classes.{IsQuartic}
-use Rattle.pm_map.proofs.CarriedStructure.{vertices_carried, faces_carried}
+use Rattle.pm_map.proofs.CarriedStructure.{faces_carried}
 use Rattle.pm_map.proofs.DegreeTotals.{darts_of_degree}
 use Rattle.pm_medial.specs.Medial.{IsMedialOf}
 use Rattle.pm_medial.specs.Colouring.{IsColouring}

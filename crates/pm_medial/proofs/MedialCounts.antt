@@ -3,17 +3,15 @@ use Rattle.std.proofs.Common.{◌≡◌, ℕ, zero, suc, ◌+◌, ◌*◌, ◌/�
 use Rattle.std.proofs.lemmas.Bool.{ne_eqb}
 use Rattle.pm_perm.specs.Permutation.{IsPermutationBelow}
 use Rattle.pm_perm.specs.Cycles.{cycles, repeated}
-use Rattle.pm_perm.specs.Exchange.{IsProductBelow}
 use Rattle.pm_perm.proofs.Interleaved.{by_parity, cycles-interleaved}
 use Rattle.pm_perm.proofs.PartPairs.{involution-permutes}
 use Rattle.pm_perm.proofs.Renumbered.{cycles-turned, cycles-inverse, product-permutes}
 use Rattle.pm_map.specs.Structure.{Structure, IsStructure, face_next}
-use Rattle.pm_map.specs.Plane.{IsPlane, vertices, edges, faces}
+use Rattle.pm_map.specs.Plane.{vertices, edges, faces}
 use Rattle.pm_map.specs.CycleSize.{IsCycleSize}
-use Rattle.pm_map.specs.Classes.{IsQuartic}
 use Rattle.pm_map.proofs.DegreeTotals.{darts_of_degree}
 use Rattle.pm_medial.specs.Medial.{IsMedialOf}
-use Rattle.pm_medial.specs.MedialLaws.{MedialIsQuartic, MedialCounts, AreMedialCounts}
+use Rattle.pm_medial.specs.MedialLaws.{MedialIsQuartic, MedialCounts}
 use Rattle.pm_medial.proofs.MedialStructure.{before, before_stays, next_before, before_permutes, after_even, after_odd, twin_next_stays, medial_is_structure, medial_is_connected}
 
 twins_permute : (s : Structure) → IsStructure s → IsPermutationBelow s.darts s.twin

@@ -1,8 +1,8 @@
 -- Medial structures are the same exactly where the structures are.
-use Rattle.std.proofs.Common.{◌≡◌, ℕ, suc, ◌+◌, ◌*◌, ◌/◌, ◌-◌, ◌%◌, ◌<◌, Bool, IsTrue, eqb, refl, sym, ap, ◌∙◌, subst, arith, eq-eqb}
+use Rattle.std.proofs.Common.{◌≡◌, ℕ, suc, ◌+◌, ◌*◌, ◌/◌, ◌-◌, ◌%◌, ◌<◌, Bool, IsTrue, eqb, sym, ap, ◌∙◌, subst, arith}
 use Rattle.pm_perm.specs.Permutation.{IsPermutationBelow}
 use Rattle.pm_perm.proofs.Interleaved.{by_parity, interleaved_permutes}
-use Rattle.pm_map.specs.Structure.{Structure, IsStructure, IsConnected, CarriesTo, Same}
+use Rattle.pm_map.specs.Structure.{Structure, IsStructure, IsConnected, CarriesTo}
 use Rattle.pm_medial.specs.Medial.{IsMedialOf}
 use Rattle.pm_medial.specs.MedialLaws.{MedialsTell}
 use Rattle.pm_medial.proofs.MedialStructure.{before, before_stays, next_before, after_even, medial_is_structure, medial_is_connected}

@@ -1,5 +1,5 @@
 -- A medial structure is a structure, connected where the first is.
-use Rattle.std.proofs.Common.{◌≡◌, ℕ, suc, ◌*◌, ◌<◌, IsTrue, refl, sym, ap, ◌∙◌, subst, arith}
+use Rattle.std.proofs.Common.{◌≡◌, ℕ, suc, ◌*◌, ◌<◌, IsTrue, sym, ap, ◌∙◌, subst, arith}
 use Rattle.pm_perm.specs.Permutation.{IsPermutationBelow}
 use Rattle.pm_perm.proofs.InverseLemmas.{place_of, place_of-stays, value-place_of, place_of-permutes}
 use Rattle.pm_perm.proofs.Interleaved.{by_parity}

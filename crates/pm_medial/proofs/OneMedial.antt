@@ -1,5 +1,5 @@
 -- A map has one medial map.
-use Rattle.std.proofs.Common.{◌≡◌, ℕ, suc, ◌*◌, ◌/◌, ◌<◌, ◌≤◌, List, length, get_or, slice_index, refl, sym, ap, ◌∙◌, subst, arith, Result, Ok, Err}
+use Rattle.std.proofs.Common.{◌≡◌, ℕ, ◌<◌, List, length, get_or, slice_index, refl, sym, ap, ◌∙◌, subst, arith, Ok, Err}
 use Rattle.std.proofs.lemmas.List.{ext_get_or}
 use Rattle.pm_perm.proofs.Interleaved.{by_parity}
 use Rattle.pm_map.specs.Rotation.{RotationSystem, structure_of, IsRootedMap}

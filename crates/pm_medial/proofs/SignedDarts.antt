@@ -1,8 +1,6 @@
 -- Plus and minus darts: the colours of the faces, told by their darts. Around each vertex they take turns.
-use Rattle.std.proofs.Common.{◌≡◌, ℕ, suc, ◌<◌, Bool, true, false, not, refl, sym, ap, ◌∙◌, subst, arith}
-use Rattle.pm_perm.specs.Cycles.{repeated}
-use Rattle.pm_map.specs.Structure.{Structure, IsStructure, face_next}
-use Rattle.pm_map.specs.CycleSize.{IsCycleSize}
+use Rattle.std.proofs.Common.{◌≡◌, ℕ, ◌<◌, Bool, true, false, not, refl, sym, ap, ◌∙◌}
+use Rattle.pm_map.specs.Structure.{Structure, IsStructure}
 use Rattle.pm_medial.specs.Colouring.{IsColouring}
 
 pub not_twice : (b : Bool) → not (not b) ≡ b

@@ -1,14 +1,13 @@
 -- Medial maps and unmedials undo each other, up to the names of darts.
-use Rattle.std.proofs.Common.{◌≡◌, ℕ, ◌*◌, ◌%◌, ◌<◌, inl, inr, Bool, length, slice_index, sym, ap, ◌∙◌, subst, arith}
+use Rattle.std.proofs.Common.{◌≡◌, ℕ, ◌*◌, ◌%◌, ◌<◌, inl, inr, Bool, length, slice_index, sym, ◌∙◌, arith}
 use Rattle.std.proofs.lemmas.Bool.{cases_order}
-use Rattle.pm_map.specs.Structure.{Structure, IsStructure, CarriesTo, Same}
-use Rattle.pm_map.specs.Plane.{IsPlane, vertices, edges}
+use Rattle.pm_map.specs.Structure.{Structure}
+use Rattle.pm_map.specs.Plane.{vertices}
 use Rattle.pm_map.specs.Rotation.{RotationSystem, structure_of, IsRootedMap}
 use Rattle.pm_map.specs.CycleSize.{IsCycleSize}
-use Rattle.pm_map.specs.Classes.{IsQuartic}
 use Rattle.pm_map.proofs.SameMaps.{same_as_itself, same_symmetric, same_transitive}
 use Rattle.pm_map.proofs.CarriedStructure.{rooted_is_plane, vertices_carried}
-use Rattle.pm_medial.specs.Medial.{IsMedialOf, IsMedialMap, IsUnmedialOf}
+use Rattle.pm_medial.specs.Medial.{IsUnmedialOf}
 use Rattle.pm_medial.specs.MedialLaws.{UnmedialOfMedialIsSame, MedialOfUnmedialIsSame, EachQuarticHasUnmedial, UnmedialsTell, UnmedialCounts}
 use Rattle.pm_medial.specs.Colouring.{IsColouring}
 use Rattle.pm_medial.specs.steps.Halved.{IsHalfMap}

@@ -1,23 +1,21 @@
 -- From the steps of the code to the unmedial: edges that are twins, darts that number them, the rotation of the half.
-use Rattle.std.proofs.Common.{◌≡◌, ℕ, suc, ◌*◌, ◌/◌, ◌%◌, ◌<◌, ◌≤◌, Bool, false, List, length, get_or, slice_index, sym, ap, ◌∙◌, subst, arith}
+use Rattle.std.proofs.Common.{◌≡◌, ℕ, ◌*◌, ◌/◌, ◌<◌, ◌≤◌, Bool, false, List, length, get_or, slice_index, sym, ap, ◌∙◌, subst, arith}
 use Rattle.std.specs.Prelude.{slice_index_or}
 use Rattle.std.proofs.lemmas.Grind.{get_or_default_zero}
-use Rattle.pm_limits.specs.declared.TheConstants.{MAX_EDGES}
 use Rattle.pm_perm.specs.Permutation.{IsPermutationList}
-use Rattle.pm_perm.specs.Least.{IsLeast}
 use Rattle.pm_map.specs.Structure.{Structure, IsStructure}
 use Rattle.pm_map.specs.Rotation.{RotationSystem, structure_of, IsRootedMap}
 use Rattle.pm_map.specs.CycleSize.{IsCycleSize}
 use Rattle.pm_map.specs.EdgeNumbers.{IsTwinning, dart_of}
-use Rattle.pm_map.specs.ClassRules.{HasAdmittedDegree, AllAdmitted, IsLeastOther}
+use Rattle.pm_map.specs.ClassRules.{AllAdmitted, IsLeastOther}
 use Rattle.pm_map.specs.declared.admitted.Degrees.TheVariants.{Exactly, EvenUpTo}
 use Rattle.pm_map.proofs.CycleSizes.{IsAway-short}
 use Rattle.pm_map.proofs.DegreeRules.{cycle_size_is_unique}
 use Rattle.pm_map.proofs.NumberedEdges.{dart_of_permutes, dart_of-same}
 use Rattle.pm_open.specs.AcrossEdges.{AllDegreesAreEven}
 use Rattle.pm_medial.specs.Medial.{IsUnmedialOf}
-use Rattle.pm_medial.specs.Colouring.{AreColours, HasEvenDegree, IsLeastOdd}
-use Rattle.pm_medial.specs.steps.Halved.{edge_two_on, edge_before, AreEdgesTwoOn, IsHalfRotation, IsHalfMap}
+use Rattle.pm_medial.specs.Colouring.{AreColours, IsLeastOdd}
+use Rattle.pm_medial.specs.steps.Halved.{edge_two_on, edge_before, AreEdgesTwoOn, IsHalfRotation}
 use Rattle.pm_medial.proofs.HalfNames.{edges_twin, plus_of_stays}
 use Rattle.pm_medial.proofs.SignedDarts.{three_stays}
 use Rattle.pm_medial.proofs.UnmedialLaws.{half_is_unmedial}

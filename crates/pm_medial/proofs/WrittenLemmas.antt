@@ -1,5 +1,5 @@
 -- Writing a medial rotation, dart by dart, and what it is when all is written.
-use Rattle.std.proofs.Common.{◌≡◌, ℕ, suc, ◌+◌, ◌*◌, ◌%◌, ◌<◌, ◌≤◌, List, length, length-set, get_or, set, inl, inr, refl, sym, ap, ◌∙◌, subst, arith}
+use Rattle.std.proofs.Common.{◌≡◌, ℕ, suc, ◌*◌, ◌<◌, ◌≤◌, List, length, length-set, get_or, set, inl, inr, sym, ◌∙◌, subst, arith}
 use Rattle.std.proofs.lemmas.Bool.{cases_eq}
 use Rattle.std.proofs.lemmas.List.{get_or-set_same, get_or-set_other}
 use Rattle.pm_limits.specs.declared.TheConstants.{MAX_EDGES}
@@ -7,7 +7,6 @@ use Rattle.pm_perm.specs.Permutation.{IsPermutationList}
 use Rattle.pm_map.specs.Rotation.{RotationSystem, structure_of, twin, IsRootedMap}
 use Rattle.pm_map.proofs.CarriedStructure.{rooted_is_plane}
 use Rattle.pm_medial.specs.Medial.{IsMedialMap}
-use Rattle.pm_medial.specs.MedialLaws.{MedialIsQuartic}
 use Rattle.pm_medial.specs.steps.Written.{IsMedialRotation}
 use Rattle.pm_medial.proofs.MedialCounts.{medial_is_quartic}
 

@@ -1,5 +1,5 @@
 -- What the reader of the lines of a map text has read so far.
-use Rattle.std.specs.Prelude.{◌≡◌, ℕ, ◌+◌, ◌*◌, ◌<◌, ◌≤◌, ◌^◌, List, [], ◌∷◌, ◌++◌, All, Option, Some, None, MatchOption, ⊤, length, map, take, codes}
+use Rattle.std.specs.Prelude.{◌≡◌, ℕ, ◌+◌, ◌<◌, ◌≤◌, ◌^◌, List, [], ◌∷◌, ◌++◌, All, length, map, take, codes}
 use Rattle.std.specs.List.{concat}
 use Rattle.pm_mapfile.specs.MapText.{dart_words}
 use Rattle.pm_mapfile.specs.MapFile.{AreMapLines, IsFirstLine, IsVertexLine, lines_text}

@@ -1,7 +1,6 @@
 -- What the printer of a map text has added so far.
-use Rattle.std.specs.Prelude.{◌≡◌, ℕ, ◌/◌, List, [], ◌∷◌, ◌++◌, length, decimal, codes}
+use Rattle.std.specs.Prelude.{◌≡◌, ℕ, List, ◌++◌, length}
 use Rattle.pm_map.specs.Structure.{Structure}
-use Rattle.pm_map.specs.Rotation.{RotationSystem, structure_of}
 use Rattle.pm_map.specs.Meeting.{IsMeetingList, IsVertexFrom}
 use Rattle.pm_mapfile.specs.MapText.{vertex_line, vertex_lines}
 

@@ -1,6 +1,6 @@
 use Rattle.std.proofs.Common.{arith}
 use Rattle.pm_map.proofs.DualMaps.{dual_is_rooted}
-use Rattle.pm_medial.proofs.DualWritten.{turned_more, turned_is_dual}
+use Rattle.pm_medial.proofs.DualWritten.{turned_is_dual}
 use Rattle.pm_medial.proofs.duals.dual.Goals as goal
 
 pub from_rooted_rotation-requires : goal.from_rooted_rotation-requires

@@ -1,7 +1,6 @@
-use Rattle.std.proofs.Common.{arith, sym, ◌∙◌}
 use Rattle.pm_map.specs.Rotation.{structure_of}
 use Rattle.pm_medial.proofs.UnmedialLaws.{four_is_even}
-use Rattle.pm_medial.proofs.UnmedialSteps.{all_four, few_twins, twins_are_twinning, darts_permute, half_darts, rotation_is_unmedial}
+use Rattle.pm_medial.proofs.UnmedialSteps.{all_four, few_twins, twins_are_twinning, darts_permute, rotation_is_unmedial}
 use Rattle.pm_medial.proofs.unmedials.unmedial.Goals as goal
 
 pub colours_of-requires : goal.colours_of-requires
