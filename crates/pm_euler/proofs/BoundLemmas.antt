@@ -5,17 +5,15 @@ use Rattle.std.proofs.Math.ListN.{get_or-append}
 use Rattle.std.proofs.lemmas.List.{get_or_default, get_or-append_right, get_or-replicate, get_or-take, get_or-drop, length-replicate}
 use Rattle.std.proofs.lemmas.List.Elements.{All-append, All-replicate, All-nil, All-cons}
 use Rattle.pm_lists.specs.Valid.{AreBounds, IsValidList}
-use Rattle.pm_lehmer.specs.Lehmer.{code_of, IsArrangementCode}
+use Rattle.pm_lehmer.specs.Lehmer.{IsArrangementCode}
 use Rattle.pm_remy.specs.Growth.{IsChoices}
-use Rattle.pm_euler.specs.Bounds.{growth_bounds, code_bounds, quartic_choices, quartic_residues}
+use Rattle.pm_objects.specs.Codes.{code_bounds}
+use Rattle.pm_objects.proofs.CodeBounds.{code_positive, length-code_bounds, code_bound}
+use Rattle.pm_euler.specs.Bounds.{growth_bounds, quartic_choices, quartic_residues}
 
 growth_positive : (grown n : ℕ) → All (λ bound. 1 ≤ bound) (growth_bounds grown n)
 growth_positive grown zero = All-nil (λ (bound : ℕ). 1 ≤ bound)
 growth_positive grown (suc n) = All-cons (λ (bound : ℕ). 1 ≤ bound) (2 * (2 * grown + 1)) (growth_bounds (suc grown) n) (omega arith) (growth_positive (suc grown) n)
-
-pub code_positive : (n : ℕ) → All (λ bound. 1 ≤ bound) (code_bounds n)
-code_positive zero = All-nil (λ (bound : ℕ). 1 ≤ bound)
-code_positive (suc n) = All-cons (λ (bound : ℕ). 1 ≤ bound) (suc n) (code_bounds n) (omega arith) (code_positive n)
 
 pub quartic_choices_are : (n : ℕ) → AreBounds (quartic_choices n)
 quartic_choices_are n = record {
@@ -31,24 +29,11 @@ pub length-growth_bounds : (grown n : ℕ) → length (growth_bounds grown n) �
 length-growth_bounds grown zero = refl
 length-growth_bounds grown (suc n) = ap suc (length-growth_bounds (suc grown) n)
 
-pub length-code_bounds : (n : ℕ) → length (code_bounds n) ≡ n
-length-code_bounds zero = refl
-length-code_bounds (suc n) = ap suc (length-code_bounds n)
-
-pub code_bounds_low : (most n : ℕ) → n ≤ most → All (λ bound. bound ≤ most) (code_bounds n)
-code_bounds_low most zero few = All-nil (λ (bound : ℕ). bound ≤ most)
-code_bounds_low most (suc n) few = All-cons (λ (bound : ℕ). bound ≤ most) (suc n) (code_bounds n) few (code_bounds_low most n (omega arith))
-
 -- the bound at a place
 pub growth_bound : (grown n k : ℕ) → k < n → slice_index (growth_bounds grown n) k ≡ 2 * (2 * (grown + k) + 1)
 growth_bound grown (suc n) zero less = let e : grown ≡ grown + 0 = omega arith in ap (λ (g : ℕ). 2 * (2 * g + 1)) e
 growth_bound grown (suc n) (suc k) less = let e : suc grown + k ≡ grown + suc k = omega arith in growth_bound (suc grown) n k (omega arith) ∙ ap (λ (g : ℕ). 2 * (2 * g + 1)) e
 growth_bound grown zero k less = absurd (omega arith)
-
-pub code_bound : (n k : ℕ) → k < n → slice_index (code_bounds n) k ≡ n - k
-code_bound (suc n) zero less = let e : suc n ≡ suc n - 0 = omega arith in e
-code_bound (suc n) (suc k) less = let e : n - k ≡ suc n - suc k = omega arith in code_bound n k (omega arith) ∙ e
-code_bound zero k less = absurd (omega arith)
 
 -- the three parts of the choices of quartic maps
 pub length-quartic_choices : (n : ℕ) → length (quartic_choices n) ≡ 2 * n + 1
@@ -110,10 +95,6 @@ pub free_is_valid : (n : ℕ) (choices : List ℕ) → IsValidList choices (quar
 free_is_valid n choices valid =
     let long : length choices ≡ 2 * n + 1 = valid.as_long ∙ length-quartic_choices n in
     subst (λ (x : ℕ). slice_index choices (2 * n) < x) (choice_of_free n) (valid.below (2 * n) (omega arith))
-
-pub length-code_of : (entries : List ℕ) → length (code_of entries) ≡ length entries
-length-code_of [] = refl
-length-code_of (entry ∷ later) = ap suc (length-code_of later)
 
 -- and a residue is valid
 pub residue_is_valid : (n old_plant : ℕ) (code : List ℕ) → old_plant < n + 2 → length code ≡ n + 1 → IsArrangementCode code → IsValidList (old_plant ∷ code) (quartic_residues n)

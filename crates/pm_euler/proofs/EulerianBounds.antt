@@ -1,22 +1,22 @@
 -- The bounds of the choices and the residues of Eulerian maps are bounds, and what is below them.
-use Rattle.std.proofs.Common.{◌≡◌, ℕ, zero, suc, ◌+◌, ◌-◌, ◌*◌, ◌/◌, ◌<◌, ◌≤◌, List, [], ◌∷◌, ◌++◌, length, length-append, length-take, length-drop, take, replicate, append_assoc, drop, map, refl, sym, ◌∙◌, ap, arith}
-use Rattle.std.specs.Prelude.{slice_index, All, flat_map, count_by, ◌==◌}
+use Rattle.std.proofs.Common.{◌≡◌, ℕ, zero, suc, ◌+◌, ◌-◌, ◌*◌, ◌/◌, ◌<◌, ◌≤◌, List, [], ◌∷◌, ◌++◌, length, length-append, length-take, length-drop, take, replicate, append_assoc, drop, map, refl, sym, ◌∙◌, ap, subst, arith}
+use Rattle.std.specs.Prelude.{slice_index, All, flat_map}
 use Rattle.std.proofs.Math.ListN.{get_or-append}
 use Rattle.std.proofs.lemmas.List.{flat_map_more, take_more, map-append, get_or-append_right, get_or-take, get_or-drop, get_or-map, length-map}
 use Rattle.std.proofs.lemmas.List.Elements.{All-append, All-map, All-weaker, All-nil, All-cons}
-use Rattle.std.proofs.lemmas.List.Sums.{length-filter}
 use Rattle.pm_lists.specs.Valid.{AreBounds, IsValidList}
-use Rattle.pm_lehmer.specs.Lehmer.{code_of, IsArrangementCode}
-use Rattle.pm_lehmer.proofs.Arranged.{length-code_of, code_of-is_code}
+use Rattle.pm_lehmer.specs.Lehmer.{IsArrangementCode}
 use Rattle.pm_trees.specs.Binomial.{choose}
 use Rattle.pm_trees.specs.BudPattern.{IsHalfDegree}
 use Rattle.pm_trees.specs.Pairs.{IsProfile, edges_of, pair_at}
 use Rattle.pm_trees.proofs.Binomials.{choose_some}
-use Rattle.pm_euler.specs.Objects.{halves_of, nodes_of_profile, half_of, objects_of}
-use Rattle.pm_euler.specs.Bounds.{code_bounds, eulerian_choices, eulerian_residues}
+use Rattle.pm_objects.specs.Codes.{code_bounds, bounds_by_range}
+use Rattle.pm_objects.proofs.ObjectCounts.{HasObjects as HaveRanges}
+use Rattle.pm_euler.specs.Objects.{halves_of, nodes_of_profile, leaves_of_profile, ranges_of}
+use Rattle.pm_euler.specs.Bounds.{eulerian_choices, eulerian_residues}
 use Rattle.pm_euler.specs.Eulerian.{codes_by_degree}
-use Rattle.pm_euler.proofs.BoundLemmas.{code_positive, length-code_bounds, code_bound}
-use Rattle.pm_euler.proofs.ObjectLemmas.{halves_are, HasObjects}
+use Rattle.pm_objects.proofs.CodeBounds.{code_positive, length-code_bounds, code_bound, valid_cons, valid_append, valid_codes}
+use Rattle.pm_euler.proofs.ObjectLemmas.{halves_are}
 
 patterns_some : (half : ℕ) → IsHalfDegree half → 1 ≤ choose (2 * half - 1) half
 patterns_some half is = let h = choose_some (2 * half - 1) half (let some = is.some in omega arith) in omega (arith, h)
@@ -31,20 +31,33 @@ eulerian_choices_are pairs is = record {
       (All-cons (λ (bound : ℕ). 1 ≤ bound) 2 [] (omega arith) (All-nil (λ (bound : ℕ). 1 ≤ bound)));
 }
 
-codes_positive : (pairs : List (ℕ × ℕ)) → All (λ bound. 1 ≤ bound) (flat_map (λ (p : ℕ × ℕ). code_bounds p.1) pairs)
+codes_positive : (ranges : List (ℕ × ℕ)) → All (λ bound. 1 ≤ bound) (flat_map (λ (r : ℕ × ℕ). code_bounds r.1) ranges)
 codes_positive [] = All-nil (λ (bound : ℕ). 1 ≤ bound)
-codes_positive (p ∷ pairs) = All-append (λ (bound : ℕ). 1 ≤ bound) (code_bounds p.1) (flat_map (λ (p : ℕ × ℕ). code_bounds p.1) pairs) (code_positive p.1) (codes_positive pairs)
+codes_positive (r ∷ ranges) = All-append (λ (bound : ℕ). 1 ≤ bound) (code_bounds r.1) (flat_map (λ (r : ℕ × ℕ). code_bounds r.1) ranges) (code_positive r.1) (codes_positive ranges)
+
+-- the bounds of the codes, pair by pair
+pub bounds_flat : (pairs : List (ℕ × ℕ)) → flat_map (λ (r : ℕ × ℕ). code_bounds r.1) (ranges_of pairs) ≡ flat_map (λ (p : ℕ × ℕ). code_bounds p.1) pairs
+bounds_flat [] = refl
+bounds_flat (p ∷ pairs) = ap (λ (xs : List ℕ). code_bounds p.1 ++ xs) (bounds_flat pairs)
+
+pub residues_by_range : (pairs : List (ℕ × ℕ)) → eulerian_residues pairs ≡ suc (edges_of pairs) ∷ (bounds_by_range (ranges_of pairs) (leaves_of_profile pairs) ++ suc (leaves_of_profile pairs) ∷ [])
+residues_by_range pairs = ap (λ (bounds : List ℕ). suc (edges_of pairs) ∷ (bounds ++ code_bounds (leaves_of_profile pairs) ++ suc (leaves_of_profile pairs) ∷ [])) (sym (bounds_flat pairs))
 
 pub eulerian_residues_are : (pairs : List (ℕ × ℕ)) → IsProfile pairs → AreBounds (eulerian_residues pairs)
 eulerian_residues_are pairs is =
-    let leaves : ℕ = suc (edges_of pairs) - nodes_of_profile pairs in
-    record {
+    let leaves : ℕ = leaves_of_profile pairs in
+    subst AreBounds (sym (residues_by_range pairs)) (record {
       each =
-          All-cons (λ (bound : ℕ). 1 ≤ bound) (suc (edges_of pairs)) (flat_map (λ (p : ℕ × ℕ). code_bounds p.1) pairs ++ code_bounds leaves ++ suc leaves ∷ []) (omega arith)
-          (All-append (λ (bound : ℕ). 1 ≤ bound) (flat_map (λ (p : ℕ × ℕ). code_bounds p.1) pairs ++ code_bounds leaves) (suc leaves ∷ [])
-          (All-append (λ (bound : ℕ). 1 ≤ bound) (flat_map (λ (p : ℕ × ℕ). code_bounds p.1) pairs) (code_bounds leaves) (codes_positive pairs) (code_positive leaves))
+          All-cons (λ (bound : ℕ). 1 ≤ bound) (suc (edges_of pairs)) (bounds_by_range (ranges_of pairs) leaves ++ suc leaves ∷ []) (omega arith)
+          (All-append (λ (bound : ℕ). 1 ≤ bound) (bounds_by_range (ranges_of pairs) leaves) (suc leaves ∷ [])
+          (All-append (λ (bound : ℕ). 1 ≤ bound) (flat_map (λ (r : ℕ × ℕ). code_bounds r.1) (ranges_of pairs)) (code_bounds leaves) (codes_positive (ranges_of pairs)) (code_positive leaves))
           (All-cons (λ (bound : ℕ). 1 ≤ bound) (suc leaves) [] (omega arith) (All-nil (λ (bound : ℕ). 1 ≤ bound))));
-    }
+    })
+
+-- the half degrees, pair by pair
+pub halves_flat : (pairs : List (ℕ × ℕ)) → halves_of pairs ≡ flat_map (λ (p : ℕ × ℕ). replicate p.1 (p.0 / 2)) pairs
+halves_flat [] = refl
+halves_flat (p ∷ pairs) = ap (λ (xs : List ℕ). replicate p.1 (p.0 / 2) ++ xs) (halves_flat pairs)
 
 -- the bounds of the patterns of one pair more
 map-replicate : (f : ℕ → ℕ) (n x : ℕ) → map f (replicate n x) ≡ replicate n (f x)
@@ -58,7 +71,8 @@ patterns_more pairs i front limits after less before e =
     let patterns : ℕ → ℕ = λ half. choose (2 * half - 1) half in
     let nodes : ℕ × ℕ → List ℕ = λ p. replicate p.1 (p.0 / 2) in
     let here : List ℕ = nodes (pair_at pairs i) in
-    let halves : halves_of (take i pairs) ++ here ≡ halves_of (take (i + 1) pairs) = flat_map_more nodes [] (take i pairs) (pair_at pairs i) ∙ ap halves_of (sym (take_more pairs i (0, 0) less)) in
+    let halves : halves_of (take i pairs) ++ here ≡ halves_of (take (i + 1) pairs) =
+    ap (λ (xs : List ℕ). xs ++ here) (halves_flat (take i pairs)) ∙ flat_map_more nodes [] (take i pairs) (pair_at pairs i) ∙ sym (halves_flat (take i pairs ++ pair_at pairs i ∷ [])) ∙ ap halves_of (sym (take_more pairs i (0, 0) less)) in
     e
     ∙ ap (λ (xs : List ℕ). limits ++ xs) (sym (map-replicate patterns (pair_at pairs i).1 ((pair_at pairs i).0 / 2)))
     ∙ ap (λ (xs : List ℕ). xs ++ map patterns here) before
@@ -148,50 +162,12 @@ free_is_valid pairs choices valid =
     let long : length choices ≡ suc (edges_of pairs) + nodes_of_profile pairs + 1 = valid.as_long ∙ length-eulerian_choices pairs in
     omega (arith, choice_of_free pairs, valid.below (suc (edges_of pairs) + nodes_of_profile pairs) (omega arith))
 
--- valid lists one after another
-pub valid_cons : (value bound : ℕ) (values bounds : List ℕ) → value < bound → IsValidList values bounds → IsValidList (value ∷ values) (bound ∷ bounds)
-valid_cons value bound values bounds low valid = record { as_long = ap suc valid.as_long; below = each } where
-  each : (place : ℕ) → place < suc (length values) → slice_index (value ∷ values) place < slice_index (bound ∷ bounds) place
-  each zero less = low
-  each (suc k) less = valid.below k (omega arith)
-
-pub valid_append : (values more bounds others : List ℕ) → IsValidList values bounds → IsValidList more others → IsValidList (values ++ more) (bounds ++ others)
-valid_append [] more [] others first second = second
-valid_append [] more (bound ∷ bounds) others first second = absurd (let e = first.as_long in omega arith)
-valid_append (value ∷ values) more [] others first second = absurd (let e = first.as_long in omega arith)
-valid_append (value ∷ values) more (bound ∷ bounds) others first second =
-    let e = first.as_long in
-    valid_cons value bound (values ++ more) (bounds ++ others) (first.below 0 (omega arith))
-    (valid_append values more bounds others (record { as_long = omega arith; below = λ k less. first.below (suc k) (omega arith) }) second)
-
--- a code is valid for the bounds of its length
-pub valid_code : (n : ℕ) (entries : List ℕ) → length entries ≡ n → IsValidList (code_of entries) (code_bounds n)
-valid_code n entries long =
-    let same = length-code_of entries in
-    let is = code_of-is_code entries in
-    record {
-      as_long = same ∙ long ∙ sym (length-code_bounds n);
-      below = λ k less. (let bound = code_bound n k (omega arith) in let here = is.below k less in omega arith);
-    }
-
--- the codes of the degrees, one after another
-valid_codes : (halves objects : List ℕ) (pairs : List (ℕ × ℕ)) → ((k : ℕ) → k < length pairs → count_by (λ object. half_of halves object == (pair_at pairs k).0 / 2) objects ≡ (pair_at pairs k).1)
-    → IsValidList (flat_map (λ (p : ℕ × ℕ). code_of (objects_of halves (p.0 / 2) objects)) pairs) (flat_map (λ (p : ℕ × ℕ). code_bounds p.1) pairs)
-valid_codes halves objects [] counted = record { as_long = refl; below = λ k less. absurd (omega arith) }
-valid_codes halves objects (p ∷ pairs) counted =
-    valid_append (code_of (objects_of halves (p.0 / 2) objects)) (flat_map (λ (p : ℕ × ℕ). code_of (objects_of halves (p.0 / 2) objects)) pairs) (code_bounds p.1) (flat_map (λ (p : ℕ × ℕ). code_bounds p.1) pairs)
-    (valid_code p.1 (objects_of halves (p.0 / 2) objects) (length-filter (λ object. half_of halves object == p.0 / 2) objects ∙ counted 0 (omega arith)))
-    (valid_codes halves objects pairs (λ k less. counted (suc k) (omega arith)))
-
-pub eulerian_residue_is_valid : (pairs : List (ℕ × ℕ)) (objects : List ℕ) (start old_plant : ℕ) → IsProfile pairs → HasObjects pairs objects → start < suc (edges_of pairs)
-    → old_plant < suc (suc (edges_of pairs) - nodes_of_profile pairs) → IsValidList (start ∷ (codes_by_degree pairs objects ++ old_plant ∷ [])) (eulerian_residues pairs)
-eulerian_residue_is_valid pairs objects start old_plant is has low few =
-    let leaves : ℕ = suc (edges_of pairs) - nodes_of_profile pairs in
-    let nodes_code : List ℕ = flat_map (λ (p : ℕ × ℕ). code_of (objects_of (halves_of pairs) (p.0 / 2) objects)) pairs in
-    let leaves_code : List ℕ = code_of (objects_of (halves_of pairs) 0 objects) in
-    let nodes_bounds : List ℕ = flat_map (λ (p : ℕ × ℕ). code_bounds p.1) pairs in
-    valid_cons start (suc (edges_of pairs)) (nodes_code ++ leaves_code ++ old_plant ∷ []) (nodes_bounds ++ code_bounds leaves ++ suc leaves ∷ []) low
-    (valid_append (nodes_code ++ leaves_code) (old_plant ∷ []) (nodes_bounds ++ code_bounds leaves) (suc leaves ∷ [])
-    (valid_append nodes_code leaves_code nodes_bounds (code_bounds leaves) (valid_codes (halves_of pairs) objects pairs has.of_pair)
-    (valid_code leaves (objects_of (halves_of pairs) 0 objects) (length-filter (λ object. half_of (halves_of pairs) object == 0) objects ∙ has.of_leaves)))
-    (valid_cons old_plant (suc leaves) [] [] few (record { as_long = refl; below = λ k less. absurd (omega arith) })))
+pub eulerian_residue_is_valid : (pairs : List (ℕ × ℕ)) (objects : List ℕ) (start old_plant : ℕ) → HaveRanges (ranges_of pairs) (leaves_of_profile pairs) objects → start < suc (edges_of pairs) → old_plant < suc (leaves_of_profile pairs)
+    → IsValidList (start ∷ (codes_by_degree pairs objects ++ old_plant ∷ [])) (eulerian_residues pairs)
+eulerian_residue_is_valid pairs objects start old_plant has low few =
+    let leaves : ℕ = leaves_of_profile pairs in
+    let bounds : List ℕ = bounds_by_range (ranges_of pairs) leaves in
+    subst (IsValidList (start ∷ (codes_by_degree pairs objects ++ old_plant ∷ []))) (sym (residues_by_range pairs))
+    (valid_cons start (suc (edges_of pairs)) (codes_by_degree pairs objects ++ old_plant ∷ []) (bounds ++ suc leaves ∷ []) low
+    (valid_append (codes_by_degree pairs objects) (old_plant ∷ []) bounds (suc leaves ∷ []) (valid_codes (ranges_of pairs) leaves objects has)
+    (valid_cons old_plant (suc leaves) [] [] few (record { as_long = refl; below = λ k less. absurd (omega arith) }))))

@@ -5,18 +5,18 @@ use Rattle.pm_lists.specs.Valid.{IsValidList}
 use Rattle.pm_trees.specs.Binomial.{choose}
 use Rattle.pm_trees.specs.Pairs.{IsProfile, edges_of}
 use Rattle.pm_euler.specs.Bounds.{eulerian_choices}
-use Rattle.pm_euler.specs.Eulerian.{ArePreordered}
+use Rattle.pm_objects.specs.Preorder.{ArePreordered}
 use Rattle.pm_euler.specs.Objects.{halves_of, nodes_of_profile}
 use Rattle.pm_euler.specs.PlanePlanted.{IsPlantedPlane}
 use Rattle.pm_euler.proofs.EulerianBounds.{arrangement_long, rank_is_valid, free_is_valid}
 use Rattle.pm_euler.proofs.Preorders.{IsPreorder, preorder_is}
 
-pub ap-preorder : (choices halves others : List ℕ) (objects count start : ℕ) (preorder : List ℕ) → halves ≡ others → objects ≡ count → ArePreordered halves (take objects choices) start preorder → ArePreordered others (take count choices) start preorder
+pub ap-preorder : (choices halves others : List ℕ) (objects count start : ℕ) (preorder : List ℕ) → halves ≡ others → objects ≡ count → ArePreordered 1 halves (take objects choices) start preorder → ArePreordered 1 others (take count choices) start preorder
 ap-preorder choices halves others objects count start preorder same cut is =
-    subst (λ (hs : List ℕ). ArePreordered hs (take count choices) start preorder) same (subst (λ (n : ℕ). ArePreordered halves (take n choices) start preorder) cut is)
+    subst (λ (hs : List ℕ). ArePreordered 1 hs (take count choices) start preorder) same (subst (λ (n : ℕ). ArePreordered 1 halves (take n choices) start preorder) cut is)
 
 pub preorder_of_choices : (pairs : List (ℕ × ℕ)) (choices halves : List ℕ) (objects start : ℕ) (preorder : List ℕ) → IsProfile pairs → IsValidList choices (eulerian_choices pairs) → halves ≡ halves_of pairs → objects ≡ suc (edges_of pairs)
-    → ArePreordered halves (take objects choices) start preorder → IsPreorder pairs start preorder
+    → ArePreordered 1 halves (take objects choices) start preorder → IsPreorder pairs start preorder
 preorder_of_choices pairs choices halves objects start preorder is valid same cut p =
     preorder_is pairs (take (suc (edges_of pairs)) choices) start preorder is (arrangement_long pairs choices valid) (ap-preorder choices halves (halves_of pairs) objects (suc (edges_of pairs)) start preorder same cut p)
 

@@ -1,9 +1,10 @@
 -- The laws of maps with given even degrees as a class.
-use Rattle.std.proofs.Common.{◌≡◌, ℕ, zero, suc, ◌-◌, ◌*◌, ◌<◌, ◌≤◌, List, [], ◌∷◌, ◌++◌, length, length-append, refl, arith}
+use Rattle.std.proofs.Common.{ℕ, zero, suc, ◌*◌, ◌<◌, ◌≤◌, List, [], ◌∷◌, ◌++◌, length, length-append, refl, sym, subst, arith}
 use Rattle.std.specs.Prelude.{All, flat_map}
 use Rattle.std.specs.List.{sum_by}
 use Rattle.std.proofs.lemmas.List.Elements.{All-append, All-nil, All-cons}
 use Rattle.std.proofs.lemmas.List.Sums.{sum_by-cons}
+use Rattle.pm_lists.specs.Valid.{AreBounds}
 use Rattle.pm_limits.specs.declared.TheConstants.{MAX_EDGES}
 use Rattle.pm_map.specs.Rotation.{structure_of}
 use Rattle.pm_map.specs.Classes.{IsEulerian, vertices_of_degree}
@@ -14,16 +15,18 @@ use Rattle.pm_trees.proofs.CountedPairs.{sum_bounded}
 use Rattle.pm_class.specs.ClassLaws.{IsKeptByRenumbering, AreLimits, HasMostEdges}
 use Rattle.pm_class.specs.OneToOne.{AreOneToOne}
 use Rattle.pm_class.proofs.OneToOneLemmas.{one_to_one}
-use Rattle.pm_euler.specs.Bounds.{code_bounds, eulerian_choices, eulerian_residues}
+use Rattle.pm_objects.specs.Codes.{code_bounds}
+use Rattle.pm_euler.specs.Bounds.{eulerian_choices, eulerian_residues}
 use Rattle.pm_euler.specs.Eulerian.{SamplesEulerian}
-use Rattle.pm_euler.specs.Objects.{nodes_of_profile}
-use Rattle.pm_euler.proofs.BoundLemmas.{code_bounds_low, length-code_bounds}
-use Rattle.pm_euler.proofs.EulerianBounds.{eulerian_choices_are, eulerian_residues_are, length-eulerian_choices}
+use Rattle.pm_objects.proofs.ObjectCounts.{nodes_by_ranges}
+use Rattle.pm_euler.specs.Objects.{leaves_of_profile, ranges_of}
+use Rattle.pm_objects.proofs.CodeBounds.{code_bounds_low, length-bounds_by_range}
+use Rattle.pm_euler.proofs.EulerianBounds.{eulerian_choices_are, eulerian_residues_are, length-eulerian_choices, residues_by_range}
 use Rattle.pm_euler.proofs.EulerianLists.{one_eulerian_list}
 use Rattle.pm_euler.proofs.EulerianMaps.{counted_of_degrees}
 use Rattle.pm_euler.proofs.EulerianPairs.{each_eulerian_pair}
 use Rattle.pm_euler.proofs.EulerianSamples.{each_eulerian_list_is_sampled, one_eulerian_sample}
-use Rattle.pm_euler.proofs.ObjectLemmas.{halves_few, nodes_by_pairs}
+use Rattle.pm_euler.proofs.ObjectLemmas.{halves_few}
 
 pub eulerian_one_to_one : (pairs : List (ℕ × ℕ)) → IsProfile pairs → AreOneToOne (eulerian_choices pairs) (eulerian_residues pairs) (λ m. IsEulerian (structure_of m) pairs) (SamplesEulerian pairs)
 eulerian_one_to_one pairs is =
@@ -33,40 +36,34 @@ eulerian_one_to_one pairs is =
 pub eulerian_kept_by_renumbering : (pairs : List (ℕ × ℕ)) → IsKeptByRenumbering (λ m. IsEulerian (structure_of m) pairs)
 eulerian_kept_by_renumbering pairs map other rooted after = eulerian_kept pairs (structure_of map) (structure_of other) rooted.structure after.structure
 
--- the bounds of the codes by degree are as many as the nodes, and as low
-codes_low : (most : ℕ) (pairs : List (ℕ × ℕ)) → sum_by (λ (p : ℕ × ℕ). p.1) pairs ≤ most → All (λ bound. bound ≤ most) (flat_map (λ (p : ℕ × ℕ). code_bounds p.1) pairs)
+-- the bounds of the codes are as many as the nodes, and as low
+codes_low : (most : ℕ) (ranges : List (ℕ × ℕ)) → sum_by (λ (r : ℕ × ℕ). r.1) ranges ≤ most → All (λ bound. bound ≤ most) (flat_map (λ (r : ℕ × ℕ). code_bounds r.1) ranges)
 codes_low most [] few = All-nil (λ (bound : ℕ). bound ≤ most)
-codes_low most (p ∷ pairs) few =
-    All-append (λ (bound : ℕ). bound ≤ most) (code_bounds p.1) (flat_map (λ (p : ℕ × ℕ). code_bounds p.1) pairs) (code_bounds_low most p.1 (omega (arith, few, sum_by-cons (λ (p : ℕ × ℕ). p.1) p pairs)))
-    (codes_low most pairs (omega (arith, few, sum_by-cons (λ (p : ℕ × ℕ). p.1) p pairs)))
-
-codes_long : (pairs : List (ℕ × ℕ)) → length (flat_map (λ (p : ℕ × ℕ). code_bounds p.1) pairs) ≡ sum_by (λ (p : ℕ × ℕ). p.1) pairs
-codes_long [] = refl
-codes_long (p ∷ pairs) =
-    omega (arith, length-append (code_bounds p.1) (flat_map (λ (p : ℕ × ℕ). code_bounds p.1) pairs), length-code_bounds p.1, codes_long pairs, sum_by-cons (λ (p : ℕ × ℕ). p.1) p pairs)
+codes_low most (r ∷ ranges) few =
+    All-append (λ (bound : ℕ). bound ≤ most) (code_bounds r.1) (flat_map (λ (r : ℕ × ℕ). code_bounds r.1) ranges) (code_bounds_low most r.1 (omega (arith, few, sum_by-cons (λ (r : ℕ × ℕ). r.1) r ranges)))
+    (codes_low most ranges (omega (arith, few, sum_by-cons (λ (r : ℕ × ℕ). r.1) r ranges)))
 
 pub eulerian_limits : (pairs : List (ℕ × ℕ)) → IsProfile pairs → AreLimits (eulerian_choices pairs) (eulerian_residues pairs)
 eulerian_limits pairs is =
     let few = is.few in
     let nodes = halves_few pairs is in
-    let counted = nodes_by_pairs pairs in
+    let counted = nodes_by_ranges (ranges_of pairs) in
     let choices = length-eulerian_choices pairs in
-    let leaves : ℕ = suc (edges_of pairs) - nodes_of_profile pairs in
-    let codes : List ℕ = flat_map (λ (p : ℕ × ℕ). code_bounds p.1) pairs in
-    record {
+    let leaves : ℕ = leaves_of_profile pairs in
+    let codes : List ℕ = flat_map (λ (r : ℕ × ℕ). code_bounds r.1) (ranges_of pairs) in
+    subst (AreLimits (eulerian_choices pairs)) (sym (residues_by_range pairs)) (record {
       choice_bounds = eulerian_choices_are pairs is;
       few_choices = omega (arith, few, nodes, choices);
-      residue_bounds = eulerian_residues_are pairs is;
+      residue_bounds = subst AreBounds (residues_by_range pairs) (eulerian_residues_are pairs is);
       few_residues =
           let all = length-append (codes ++ code_bounds leaves) (suc leaves ∷ []) in
-          let both = length-append codes (code_bounds leaves) in
-          omega (arith, few, nodes, counted, all, both, codes_long pairs, length-code_bounds leaves);
+          omega (arith, few, nodes, all, length-bounds_by_range (ranges_of pairs) leaves);
       low_residues =
           All-cons (λ (bound : ℕ). bound ≤ 2 * MAX_EDGES) (suc (edges_of pairs)) (codes ++ code_bounds leaves ++ suc leaves ∷ []) (omega (arith, few))
           (All-append (λ (bound : ℕ). bound ≤ 2 * MAX_EDGES) (codes ++ code_bounds leaves) (suc leaves ∷ [])
-          (All-append (λ (bound : ℕ). bound ≤ 2 * MAX_EDGES) codes (code_bounds leaves) (codes_low (2 * MAX_EDGES) pairs (omega (arith, few, nodes, counted))) (code_bounds_low (2 * MAX_EDGES) leaves (omega (arith, few))))
+          (All-append (λ (bound : ℕ). bound ≤ 2 * MAX_EDGES) codes (code_bounds leaves) (codes_low (2 * MAX_EDGES) (ranges_of pairs) (omega (arith, few, nodes, counted))) (code_bounds_low (2 * MAX_EDGES) leaves (omega (arith, few))))
           (All-cons (λ (bound : ℕ). bound ≤ 2 * MAX_EDGES) (suc leaves) [] (omega (arith, few)) (All-nil (λ (bound : ℕ). bound ≤ 2 * MAX_EDGES))));
-    }
+    })
 
 -- a profile with as many edges as a map may have
 greatest_pairs : List (ℕ × ℕ)

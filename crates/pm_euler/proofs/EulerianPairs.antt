@@ -1,6 +1,6 @@
 -- Each canonical map with even degrees comes with each valid residue from some valid list of choices.
-use Rattle.std.proofs.Common.{◌≡◌, ℕ, suc, ◌-◌, ◌*◌, ◌<◌, inl, inr, List, [], ◌∷◌, ◌++◌, length, map, get_or, All, take, refl, ap, sym, ◌∙◌, subst, arith, append_assoc}
-use Rattle.std.specs.Prelude.{flat_map, slice_index, slice_index_or}
+use Rattle.std.proofs.Common.{◌≡◌, ℕ, suc, ◌+◌, ◌-◌, ◌*◌, ◌<◌, inl, inr, List, [], ◌∷◌, ◌++◌, length, map, get_or, All, take, refl, ap, sym, ◌∙◌, subst, arith, append_assoc}
+use Rattle.std.specs.Prelude.{slice_index, slice_index_or}
 use Rattle.std.proofs.lemmas.List.{length-map, get_or-map, ext_get_or}
 use Rattle.std.proofs.lemmas.List.FromFn.{get_or-map-range_with_len, length-map-range_with_len}
 use Rattle.pm_limits.specs.declared.TheConstants.{MAX_DEGREE}
@@ -27,26 +27,31 @@ use Rattle.pm_open.specs.Opening.{IsOpening}
 use Rattle.pm_words.specs.Word.{IsGood, turned}
 use Rattle.pm_words.specs.Plane.{letter_of}
 use Rattle.pm_class.specs.OneToOne.{IsMember, IsGiven}
-use Rattle.pm_euler.specs.Bounds.{code_bounds, eulerian_choices, eulerian_residues}
+use Rattle.pm_objects.specs.Codes.{code_bounds, bounds_by_range}
+use Rattle.pm_euler.specs.Bounds.{eulerian_choices, eulerian_residues}
 use Rattle.pm_euler.specs.Closed.{IsCanonicalClosure}
-use Rattle.pm_euler.specs.Eulerian.{ArePreordered, SamplesEulerian}
+use Rattle.pm_objects.specs.Preorder.{ArePreordered}
+use Rattle.pm_euler.specs.Eulerian.{SamplesEulerian}
 use Rattle.pm_euler.specs.Kinds.{IsWordOfKinds, kind_of, kinds_of}
-use Rattle.pm_euler.specs.Objects.{half_of, halves_of, nodes_of_profile, letters_of}
+use Rattle.pm_objects.specs.Objects.{arity_of, letters_of}
+use Rattle.pm_euler.specs.Objects.{halves_of, nodes_of_profile, leaves_of_profile, ranges_of}
 use Rattle.pm_euler.specs.PlanePlanted.{IsPlantedPlane}
 use Rattle.pm_euler.specs.PlantedAnew.{IsPlantedAnew}
 use Rattle.pm_euler.specs.Unplanted.{IsUnplanted}
-use Rattle.pm_euler.proofs.EulerianBounds.{valid_cons, valid_append, valid_code}
+use Rattle.pm_objects.proofs.CodeBounds.{valid_cons, valid_append, valid_code}
+use Rattle.pm_euler.proofs.EulerianBounds.{residues_by_range}
 use Rattle.pm_euler.proofs.EulerianMaps.{profile_admits, with_profile}
 use Rattle.pm_euler.proofs.EulerianParts.{AreParts, parts_of}
-use Rattle.pm_euler.proofs.EulerianTrees.{numbers, all_objects, profile_kinds, kinds_leaves, same_pair}
-use Rattle.pm_euler.proofs.HalfCodes.{AreApart, valid_split, codes_exist}
+use Rattle.pm_euler.proofs.EulerianTrees.{all_objects, profile_kinds, kinds_leaves, same_pair}
+use Rattle.pm_objects.proofs.RangeCodes.{valid_split, codes_exist}
+use Rattle.pm_objects.proofs.ObjectCounts.{numbers}
+use Rattle.pm_objects.proofs.Preorders.{letters_turned}
 use Rattle.pm_euler.proofs.KindSides.{IsKind, of_leaf, of_node, kind_leaf, kind_node, kinds_each, kinds_sides, kinds_good, letters_in, letters_of_kinds}
-use Rattle.pm_euler.proofs.ObjectLemmas.{halves_are, halves_few, half_differs}
-use Rattle.pm_euler.proofs.ObjectsFound.{AreFound, objects_found}
+use Rattle.pm_euler.proofs.ObjectLemmas.{halves_are, halves_few, all_of_profile, profile_apart}
+use Rattle.pm_objects.proofs.ObjectsFound.{AreFound, objects_found}
 use Rattle.pm_euler.proofs.PlaneTexts.{half_degrees}
 use Rattle.pm_euler.proofs.PlaneTrees.{node_object}
-use Rattle.pm_euler.proofs.Preorders.{letters_turned}
-use Rattle.pm_euler.proofs.SameCounts.{counted_keys}
+use Rattle.pm_objects.proofs.SameCounts.{IsAsMany, counted_keys}
 use Rattle.pm_euler.proofs.SideReading.{halves_in}
 use Rattle.pm_euler.proofs.SomeUnplanting.{anew_exists, canonical_closes}
 use Rattle.pm_euler.proofs.WordKinds.{kinds_exist}
@@ -61,11 +66,11 @@ module _ (pairs kinds : List (ℕ × ℕ)) (objects ranks : List ℕ) (is : IsPr
     (halves : half_degrees (halves_of pairs) objects ≡ halves_in kinds) (long : length ranks ≡ nodes_of_profile pairs)
     (ranked : (k : ℕ) → k < length objects → slice_index objects k < nodes_of_profile pairs → slice_index ranks (slice_index objects k) ≡ (get_or kinds k (0, 0)).1) where
   as_long : length objects ≡ length kinds
-  as_long = sym (length-map objects (half_of (halves_of pairs))) ∙ ap length halves ∙ length-map kinds (λ (kind : ℕ × ℕ). kind.0)
+  as_long = sym (length-map objects (arity_of (halves_of pairs))) ∙ ap length halves ∙ length-map kinds (λ (kind : ℕ × ℕ). kind.0)
 
-  half_here : (k : ℕ) → k < length objects → half_of (halves_of pairs) (slice_index objects k) ≡ (get_or kinds k (0, 0)).0
+  half_here : (k : ℕ) → k < length objects → arity_of (halves_of pairs) (slice_index objects k) ≡ (get_or kinds k (0, 0)).0
   half_here k less =
-      sym (get_or-map (half_of (halves_of pairs)) objects k 0 0 less) ∙ ap (λ (hs : List ℕ). get_or hs k 0) halves
+      sym (get_or-map (arity_of (halves_of pairs)) objects k 0 0 less) ∙ ap (λ (hs : List ℕ). get_or hs k 0) halves
       ∙ get_or-map (λ (kind : ℕ × ℕ). kind.0) kinds k (0, 0) 0 (omega (arith, less, as_long))
 
   kind_here : (k : ℕ) → k < length objects → kind_of (halves_of pairs) ranks (slice_index objects k) ≡ get_or kinds k (0, 0)
@@ -73,15 +78,15 @@ module _ (pairs kinds : List (ℕ × ℕ)) (objects ranks : List ℕ) (is : IsPr
     | of_leaf e ↦ kind_leaf (halves_of pairs) ranks (slice_index objects k) (half_here k less ∙ ap (λ (kind : ℕ × ℕ). kind.0) e) ∙ sym e
     | of_node some few ↦
         let half = half_here k less in
-        let node : 0 < half_of (halves_of pairs) (slice_index objects k) = omega (arith, half, some) in
+        let node : 0 < arity_of (halves_of pairs) (slice_index objects k) = omega (arith, half, some) in
         kind_node (halves_of pairs) ranks (slice_index objects k) node
-        ∙ same_pair (half_of (halves_of pairs) (slice_index objects k), slice_index_or ranks (slice_index objects k) 0) (get_or kinds k (0, 0)) half (ranked k less (node_object (halves_of pairs) (slice_index objects k) node))
+        ∙ same_pair (arity_of (halves_of pairs) (slice_index objects k), slice_index_or ranks (slice_index objects k) 0) (get_or kinds k (0, 0)) half (ranked k less (node_object (halves_of pairs) (slice_index objects k) node))
   ]
 
   rank_below : (object : ℕ) → object < nodes_of_profile pairs → (k : ℕ) → k < length objects → slice_index objects k ≡ object
       → slice_index ranks object < choose (2 * slice_index (halves_of pairs) object - 1) (slice_index (halves_of pairs) object)
   rank_below object node k less here =
-      let half : half_of (halves_of pairs) object ≡ (get_or kinds k (0, 0)).0 = ap (half_of (halves_of pairs)) (sym here) ∙ half_here k less in
+      let half : arity_of (halves_of pairs) object ≡ (get_or kinds k (0, 0)).0 = ap (arity_of (halves_of pairs)) (sym here) ∙ half_here k less in
       let some = (halves_are pairs is object 0 node).some in
       let rank : slice_index ranks object ≡ (get_or kinds k (0, 0)).1 = ap (slice_index ranks) (sym here) ∙ ranked k less (omega (arith, node, here)) in
       elim (kinds_right k (0, 0) (omega (arith, less, as_long))) [
@@ -135,11 +140,11 @@ parts_are_valid pairs arrangement ranks free long ranks_long below few =
     (valid_cons free 2 [] [] few (record { as_long = refl; below = λ k less. absurd (omega arith) })))
 
 -- objects whose word is good are the preorder of their arrangement
-found_preorder : (pairs : List (ℕ × ℕ)) (halves : List ℕ) (start : ℕ) (codes code : List ℕ) → (f : AreFound pairs halves start codes) → start < suc (edges_of pairs) → code_of f.arrangement ≡ code
-    → IsGood 1 (letters_of (halves_of pairs) f.objects) → ArePreordered (halves_of pairs) code start f.objects
-found_preorder pairs halves start codes code f less coded good =
-    let letters : length (letters_of (halves_of pairs) f.arrangement) ≡ length f.arrangement = length-map f.arrangement (λ object. letter_of (half_of (halves_of pairs) object)) in
-    let long = f.arranged_long in
+found_preorder : (pairs : List (ℕ × ℕ)) (halves : List ℕ) (start : ℕ) (codes code : List ℕ) → IsProfile pairs → (f : AreFound (ranges_of pairs) (leaves_of_profile pairs) halves start codes) → start < suc (edges_of pairs) → code_of f.arrangement ≡ code
+    → IsGood 1 (letters_of (halves_of pairs) f.objects) → ArePreordered 1 (halves_of pairs) code start f.objects
+found_preorder pairs halves start codes code is f less coded good =
+    let letters : length (letters_of (halves_of pairs) f.arrangement) ≡ length f.arrangement = length-map f.arrangement (λ object. letter_of (arity_of (halves_of pairs) object)) in
+    let long = f.arranged_long ∙ all_of_profile pairs is in
     record {
       arrangement = f.arrangement;
       is_arranged = record { is_permutation = f.arranged; has_code = coded };
@@ -157,14 +162,14 @@ pub record IsListOf (pairs : List (ℕ × ℕ)) (map : RotationSystem) (residue 
 
 -- objects of the kinds of a tree, which is planted anew and closed to the map
 pub list_of_objects : (pairs kinds : List (ℕ × ℕ)) (map : RotationSystem) (start : ℕ) (codes : List ℕ) (old_plant : ℕ) (word : List ℕ) (free : ℕ) (turned ranks : List ℕ) → IsProfile pairs
-    → start < suc (edges_of pairs) → IsWordOfKinds kinds word → (f : AreFound pairs (halves_in kinds) start codes) → AreRanksOf pairs kinds f.objects ranks
+    → start < suc (edges_of pairs) → IsWordOfKinds kinds word → (f : AreFound (ranges_of pairs) (leaves_of_profile pairs) (halves_in kinds) start codes) → AreRanksOf pairs kinds f.objects ranks
     → free < 2 → IsPlantedAnew word free turned old_plant → IsCanonicalClosure turned map → IsListOf pairs map (start ∷ (codes ++ old_plant ∷ [])) (code_of f.arrangement ++ (ranks ++ free ∷ []))
 list_of_objects pairs kinds map start codes old_plant word free turned ranks is less planted f r few anew closed =
     let m : ℕ = suc (edges_of pairs) in
     let n : ℕ = nodes_of_profile pairs in
     let choices : List ℕ = code_of f.arrangement ++ (ranks ++ free ∷ []) in
-    let parts : AreParts m n choices (code_of f.arrangement) ranks free = parts_of m n (code_of f.arrangement) ranks free (length-code_of f.arrangement ∙ f.arranged_long) r.long in
-    let valid : IsValidList choices (eulerian_choices pairs) = parts_are_valid pairs f.arrangement ranks free f.arranged_long r.long r.below few in
+    let parts : AreParts m n choices (code_of f.arrangement) ranks free = parts_of m n (code_of f.arrangement) ranks free (length-code_of f.arrangement ∙ f.arranged_long ∙ all_of_profile pairs is) r.long in
+    let valid : IsValidList choices (eulerian_choices pairs) = parts_are_valid pairs f.arrangement ranks free (f.arranged_long ∙ all_of_profile pairs is) r.long r.below few in
     let good : IsGood 1 (letters_of (halves_of pairs) f.objects) =
     subst (IsGood 1) (sym (ap letters_in r.kinds_are) ∙ letters_of_kinds (halves_of pairs) ranks f.objects) (kinds_good kinds word planted) in
     record {
@@ -173,7 +178,7 @@ list_of_objects pairs kinds map start codes old_plant word free turned ranks is 
         valid = valid;
         start = start;
         objects = f.objects;
-        are_preordered = found_preorder pairs (halves_in kinds) start codes (take m choices) f less (sym parts.code_is) good;
+        are_preordered = found_preorder pairs (halves_in kinds) start codes (take m choices) is f less (sym parts.code_is) good;
         word = word;
         is_planted = subst (λ (rs : List ℕ). IsPlantedPlane (halves_of pairs) rs f.objects word) (sym parts.ranks_are)
             (kinds_sides (halves_of pairs) ranks kinds ((OPEN ∷ word ++ CLOSE ∷ []) ∷ []) f.objects planted r.kinds_are);
@@ -192,31 +197,24 @@ pub record HasResidueParts (pairs : List (ℕ × ℕ)) (residue : List ℕ) : Ty
   pub old_plant : ℕ
   pub whole : residue ≡ start ∷ (codes ++ old_plant ∷ [])
   pub start_less : start < suc (edges_of pairs)
-  pub old_less : old_plant < suc (suc (edges_of pairs) - nodes_of_profile pairs)
-  pub valid : IsValidList codes (flat_map (λ (p : ℕ × ℕ). code_bounds p.1) pairs ++ code_bounds (suc (edges_of pairs) - nodes_of_profile pairs))
+  pub old_less : old_plant < suc (leaves_of_profile pairs)
+  pub valid : IsValidList codes (bounds_by_range (ranges_of pairs) (leaves_of_profile pairs))
 
 pub residue_parts : (pairs : List (ℕ × ℕ)) (residue : List ℕ) → IsValidList residue (eulerian_residues pairs) → HasResidueParts pairs residue
 residue_parts pairs residue valid =
-    let leaves : ℕ = suc (edges_of pairs) - nodes_of_profile pairs in
-    let bounds : List ℕ = flat_map (λ (p : ℕ × ℕ). code_bounds p.1) pairs ++ code_bounds leaves in
-    let first = valid_split residue (suc (edges_of pairs) ∷ []) (bounds ++ suc leaves ∷ []) valid in
+    let leaves : ℕ = leaves_of_profile pairs in
+    let bounds : List ℕ = bounds_by_range (ranges_of pairs) leaves in
+    let first = valid_split residue (suc (edges_of pairs) ∷ []) (bounds ++ suc leaves ∷ []) (subst (IsValidList residue) (residues_by_range pairs) valid) in
     let second = valid_split first.rest bounds (suc leaves ∷ []) first.rest_is_valid in
     joined first.front second.rest second.front (ap (λ (xs : List ℕ). first.front ++ xs) second.whole ∙ first.whole) first.front_is_valid second.rest_is_valid second.front_is_valid where
-      joined : (front last codes : List ℕ) → front ++ (codes ++ last) ≡ residue → IsValidList front (suc (edges_of pairs) ∷ []) → IsValidList last (suc (suc (edges_of pairs) - nodes_of_profile pairs) ∷ [])
-          → IsValidList codes (flat_map (λ (p : ℕ × ℕ). code_bounds p.1) pairs ++ code_bounds (suc (edges_of pairs) - nodes_of_profile pairs)) → HasResidueParts pairs residue
+      joined : (front last codes : List ℕ) → front ++ (codes ++ last) ≡ residue → IsValidList front (suc (edges_of pairs) ∷ []) → IsValidList last (suc (leaves_of_profile pairs) ∷ [])
+          → IsValidList codes (bounds_by_range (ranges_of pairs) (leaves_of_profile pairs)) → HasResidueParts pairs residue
       joined (start ∷ []) (old ∷ []) codes e a b v =
           record { start = start; codes = codes; old_plant = old; whole = sym e; start_less = a.below 0 (omega arith); old_less = b.below 0 (omega arith); valid = v }
       joined [] last codes e a b v = absurd (let l = a.as_long in omega (arith, l))
       joined (start ∷ next ∷ more) last codes e a b v = absurd (let l = a.as_long in omega (arith, l))
       joined (start ∷ []) [] codes e a b v = absurd (let l = b.as_long in omega (arith, l))
       joined (start ∷ []) (old ∷ next ∷ more) codes e a b v = absurd (let l = b.as_long in omega (arith, l))
-
--- the pairs of a profile have different half degrees
-pub profile_apart : (pairs : List (ℕ × ℕ)) → IsProfile pairs → AreApart pairs
-profile_apart pairs is = record {
-  some = λ k less. let s = (is.are_pairs.right k less).some in omega (arith, s);
-  apart = λ j k before less. half_differs pairs j k is.are_pairs (omega (arith, before, less)) less (λ e. omega (arith, e, before));
-}
 
 -- a map with a profile, and the leaves of its opening
 module _ (pairs : List (ℕ × ℕ)) (map : RotationSystem) (is : IsProfile pairs) (rooted : IsRootedMap map) (has : IsEulerian (structure_of map) pairs) where
@@ -227,29 +225,34 @@ module _ (pairs : List (ℕ × ℕ)) (map : RotationSystem) (is : IsProfile pair
   profile_degrees dart less = profile_admits map pairs dart rooted is has less
 
   -- a tree with as many nodes of each degree as the map has vertices
-  pub profile_leaves : (word : List ℕ) → IsBlossoming word → ((degree : ℕ) → nodes_of word degree ≡ vertices_of_degree (structure_of map) degree) → leaves word ≡ suc (suc (edges_of pairs) - nodes_of_profile pairs)
+  pub profile_leaves : (word : List ℕ) → IsBlossoming word → ((degree : ℕ) → nodes_of word degree ≡ vertices_of_degree (structure_of map) degree) → leaves word ≡ suc (leaves_of_profile pairs)
   profile_leaves word tree nodes =
       let found = kinds_exist word tree in
       let many = profile_kinds pairs (structure_of map) found.0 word is has.degrees found.1 nodes in
       kinds_leaves found.0 word found.1
-      ∙ ap suc (many.each 0 ∙ counted_keys (half_of (halves_of pairs)) 0 (numbers (suc (edges_of pairs))) ∙ (all_objects pairs is).of_leaves)
+      ∙ ap suc (many.each 0 ∙ counted_keys (arity_of (halves_of pairs)) 0 (numbers (suc (edges_of pairs))) ∙ (all_objects pairs is).of_leaves)
 
-  pub opening_leaves : (opening : List ℕ) → IsOpening map opening → leaves opening ≡ suc (suc (edges_of pairs) - nodes_of_profile pairs)
+  pub opening_leaves : (opening : List ℕ) → IsOpening map opening → leaves opening ≡ suc (leaves_of_profile pairs)
   opening_leaves opening o = profile_leaves opening o.blossoming (λ degree. sym (kept_degrees map opening rooted o degree))
 
   pub unplanted_nodes : (old_plant : ℕ) (word : List ℕ) (free : ℕ) → IsUnplanted map old_plant word free → (degree : ℕ) → nodes_of word degree ≡ vertices_of_degree (structure_of map) degree
   unplanted_nodes old_plant word free u degree =
       sym ((replanted_alike word u.is_anew.leaf u.turned u.blossoming u.is_anew.is_replanted).degrees degree) ∙ sym (kept_degrees map u.turned rooted u.is_opening degree)
 
+-- as many keys as the objects of the ranges have
+pub many_of_profile : (pairs : List (ℕ × ℕ)) (halves : List ℕ) → IsProfile pairs → IsAsMany halves (half_degrees (halves_of pairs) (numbers (suc (edges_of pairs))))
+    → IsAsMany halves (half_degrees (halves_of pairs) (numbers (nodes_of_profile pairs + leaves_of_profile pairs)))
+many_of_profile pairs halves is = subst (λ (n : ℕ). IsAsMany halves (half_degrees (halves_of pairs) (numbers n))) (sym (all_of_profile pairs is))
+
 -- the list of choices that gives a canonical map and a valid residue
 list_of_tree : (pairs kinds : List (ℕ × ℕ)) (map : RotationSystem) (residue : List ℕ) → IsProfile pairs → IsRootedMap map → IsCanonical map → IsEulerian (structure_of map) pairs → (r : HasResidueParts pairs residue)
     → (word : List ℕ) (free : ℕ) → IsUnplanted map r.old_plant word free → IsWordOfKinds kinds word → (choices : List ℕ) × IsListOf pairs map residue choices
 list_of_tree pairs kinds map residue is rooted canonical has r word free u planted =
     let many = profile_kinds pairs (structure_of map) kinds word is has.degrees planted (unplanted_nodes pairs map is rooted has r.old_plant word free u) in
-    let have = codes_exist pairs (suc (edges_of pairs) - nodes_of_profile pairs) r.codes (profile_apart pairs is) r.valid in
-    let f = objects_found pairs is (halves_in kinds) many r.codes have r.start r.start_less in
+    let have = codes_exist (ranges_of pairs) (leaves_of_profile pairs) r.codes (profile_apart pairs is) r.valid in
+    let f = objects_found (ranges_of pairs) (leaves_of_profile pairs) (profile_apart pairs is) (halves_in kinds) (many_of_profile pairs (halves_in kinds) is many) r.codes have r.start (omega (arith, all_of_profile pairs is, r.start_less)) in
     let few = halves_few pairs is in
-    let ranks = ranks_exist pairs kinds f.objects is (kinds_each kinds ((OPEN ∷ word ++ CLOSE ∷ []) ∷ []) planted) f.permute f.halves_are f.long (omega (arith, few)) in (
+    let ranks = ranks_exist pairs kinds f.objects is (kinds_each kinds ((OPEN ∷ word ++ CLOSE ∷ []) ∷ []) planted) f.permute f.arities_are (f.long ∙ all_of_profile pairs is) (omega (arith, few)) in (
       code_of f.arrangement ++ (ranks.0 ++ free ∷ []),
       subst (λ (given : List ℕ). IsListOf pairs map given (code_of f.arrangement ++ (ranks.0 ++ free ∷ []))) (sym r.whole)
           (list_of_objects pairs kinds map r.start r.codes r.old_plant word free u.turned ranks.0 is r.start_less planted f ranks.1 u.few u.is_anew (canonical_closes map r.old_plant word free rooted canonical u)),

@@ -1,5 +1,5 @@
 -- What is sampled has the vertices that the profile says, the residue is valid, and there is one sample.
-use Rattle.std.proofs.Common.{◌≡◌, ℕ, suc, ◌+◌, ◌-◌, ◌*◌, ◌/◌, ◌<◌, inl, inr, List, [], ◌∷◌, ◌++◌, length, take, drop, refl, sym, ◌∙◌, ap, subst, arith}
+use Rattle.std.proofs.Common.{◌≡◌, ℕ, suc, ◌+◌, ◌*◌, ◌/◌, ◌<◌, inl, inr, List, [], ◌∷◌, ◌++◌, length, take, drop, refl, sym, ◌∙◌, ap, subst, arith}
 use Rattle.std.specs.Prelude.{slice_index}
 use Rattle.std.proofs.lemmas.Bool.{cases_eq}
 use Rattle.pm_lists.specs.Valid.{IsValidList}
@@ -15,8 +15,9 @@ use Rattle.pm_close.proofs.PlaneMap.{rooted_closure}
 use Rattle.pm_close.proofs.KeptDegrees.{kept}
 use Rattle.pm_euler.specs.Bounds.{eulerian_choices, eulerian_residues}
 use Rattle.pm_euler.specs.Closed.{IsCanonicalClosure}
-use Rattle.pm_euler.specs.Eulerian.{ArePreordered, SamplesEulerian, codes_by_degree}
-use Rattle.pm_euler.specs.Objects.{halves_of, nodes_of_profile}
+use Rattle.pm_objects.specs.Preorder.{ArePreordered}
+use Rattle.pm_euler.specs.Eulerian.{SamplesEulerian, codes_by_degree}
+use Rattle.pm_euler.specs.Objects.{halves_of, nodes_of_profile, leaves_of_profile}
 use Rattle.pm_euler.specs.PlanePlanted.{IsPlantedPlane}
 use Rattle.pm_euler.specs.PlantedAnew.{IsPlantedAnew}
 use Rattle.pm_class.specs.declared.sample.Sample.{Sample}
@@ -28,7 +29,8 @@ use Rattle.pm_euler.proofs.ObjectLemmas.{HasObjects, halves_are, halves_some, ha
 use Rattle.pm_euler.proofs.OneSample.{anew_alike, anew_balances, anew_blossoms, closed_anew_once, old_plant_few}
 use Rattle.pm_euler.proofs.PlaneLaws.{plane_planted_blossoming, plane_planted_leaves, plane_planted_nodes, plane_planted_no_odd}
 use Rattle.pm_euler.proofs.PlaneTrees.{plane_planted_exists, plane_planted_unique}
-use Rattle.pm_euler.proofs.Preorders.{HasPreorder, IsPreorder, preorder_exists, preorder_is, one_preorder}
+use Rattle.pm_objects.proofs.Preorders.{HasPreorder}
+use Rattle.pm_euler.proofs.Preorders.{IsPreorder, preorder_exists, preorder_is, one_preorder}
 
 -- of each degree there are as many vertices of the canonical closure as nodes
 pub closure_degrees : (word : List ℕ) (map : RotationSystem) → IsBlossoming word → IsBalanced (contour word) → IsCanonicalClosure word map → (degree : ℕ) → vertices_of_degree (structure_of map) degree ≡ nodes_of word degree
@@ -67,8 +69,8 @@ module _ (pairs : List (ℕ × ℕ)) (ranks objects word : List ℕ) (is : IsPro
         ap (nodes_of word) twice ∙ plane_planted_nodes (halves_of pairs) ranks objects word half some planted ∙ has.of_no_pair half some (λ k less e. none k less (e ∙ sym twice))
     by_half (unhalved apart) = plane_planted_no_odd (halves_of pairs) ranks objects word degree planted apart
 
-  pub leaves_of_profile : leaves word ≡ suc (suc (edges_of pairs) - nodes_of_profile pairs)
-  leaves_of_profile = plane_planted_leaves (halves_of pairs) ranks objects word planted ∙ ap suc has.of_leaves
+  pub leaves_of_word : leaves word ≡ suc (leaves_of_profile pairs)
+  leaves_of_word = plane_planted_leaves (halves_of pairs) ranks objects word planted ∙ ap suc has.of_leaves
 
 -- the map of a sample has the profile
 sampled_class : (pairs : List (ℕ × ℕ)) (ranks objects word : List ℕ) (free : ℕ) (turned : List ℕ) (old_plant : ℕ) (map : RotationSystem) → IsProfile pairs → IsBlossoming word → HasObjects pairs objects
@@ -91,9 +93,9 @@ sampled_class pairs ranks objects word free turned old_plant map is tree has pla
 
 -- the old plant is one of the leaves
 sampled_old : (pairs : List (ℕ × ℕ)) (ranks objects word : List ℕ) (free : ℕ) (turned : List ℕ) (old_plant : ℕ) → IsProfile pairs → IsBlossoming word → HasObjects pairs objects
-    → IsPlantedPlane (halves_of pairs) ranks objects word → IsPlantedAnew word free turned old_plant → old_plant < suc (suc (edges_of pairs) - nodes_of_profile pairs)
+    → IsPlantedPlane (halves_of pairs) ranks objects word → IsPlantedAnew word free turned old_plant → old_plant < suc (leaves_of_profile pairs)
 sampled_old pairs ranks objects word free turned old_plant is tree has planted anew =
-    subst (λ (n : ℕ). old_plant < n) (leaves_of_profile pairs ranks objects word is has planted) (old_plant_few word free turned old_plant tree anew)
+    subst (λ (n : ℕ). old_plant < n) (leaves_of_word pairs ranks objects word is has planted) (old_plant_few word free turned old_plant tree anew)
 
 -- what is known of the tree that choices give
 pub planted_tree : (pairs : List (ℕ × ℕ)) (start : ℕ) (ranks objects word : List ℕ) → IsProfile pairs → IsPreorder pairs start objects → IsPlantedPlane (halves_of pairs) ranks objects word → IsBlossoming word
@@ -101,7 +103,7 @@ planted_tree pairs start ranks objects word is p planted =
     plane_planted_blossoming (halves_of pairs) ranks objects word (halves_are pairs is) planted (let long = p.long in let few = is.few in omega (arith, long, few))
 
 pub eulerian_sampled : (pairs : List (ℕ × ℕ)) (choices : List ℕ) (start : ℕ) (objects word turned : List ℕ) (old_plant : ℕ) (map : RotationSystem) (residue : List ℕ) → IsProfile pairs → IsValidList choices (eulerian_choices pairs)
-    → ArePreordered (halves_of pairs) (take (suc (edges_of pairs)) choices) start objects
+    → ArePreordered 1 (halves_of pairs) (take (suc (edges_of pairs)) choices) start objects
     → IsPlantedPlane (halves_of pairs) (take (nodes_of_profile pairs) (drop (suc (edges_of pairs)) choices)) objects word
     → IsPlantedAnew word (slice_index choices (suc (edges_of pairs) + nodes_of_profile pairs)) turned old_plant → IsCanonicalClosure turned map
     → residue ≡ start ∷ (codes_by_degree pairs objects ++ old_plant ∷ [])
@@ -129,7 +131,7 @@ eulerian_sampled pairs choices start objects word turned old_plant map residue i
       canonical = closed.is_canonical.is_canonical;
       in_class = sampled_class pairs (take (nodes_of_profile pairs) (drop (suc (edges_of pairs)) choices)) objects word (slice_index choices (suc (edges_of pairs) + nodes_of_profile pairs)) turned old_plant map is tree p.has planted anew closed;
       valid_residue = subst (λ (r : List ℕ). IsValidList r (eulerian_residues pairs)) (sym residue_is)
-          (eulerian_residue_is_valid pairs objects start old_plant is p.has p.within
+          (eulerian_residue_is_valid pairs objects start old_plant p.ranged p.within
           (sampled_old pairs (take (nodes_of_profile pairs) (drop (suc (edges_of pairs)) choices)) objects word (slice_index choices (suc (edges_of pairs) + nodes_of_profile pairs)) turned old_plant is tree p.has planted anew));
     }
 
@@ -151,7 +153,7 @@ one_eulerian_sample pairs is choices map other residue rest x y =
 
 -- a tree of the choices that is planted anew and closed gives their sample
 closed_sampled : (pairs : List (ℕ × ℕ)) (choices : List ℕ) (start : ℕ) (objects word : List ℕ) → IsProfile pairs → IsValidList choices (eulerian_choices pairs)
-    → ArePreordered (halves_of pairs) (take (suc (edges_of pairs)) choices) start objects
+    → ArePreordered 1 (halves_of pairs) (take (suc (edges_of pairs)) choices) start objects
     → IsPlantedPlane (halves_of pairs) (take (nodes_of_profile pairs) (drop (suc (edges_of pairs)) choices)) objects word
     → HasClosure word (slice_index choices (suc (edges_of pairs) + nodes_of_profile pairs))
     → (sample : Sample) × IsSampled (eulerian_choices pairs) (eulerian_residues pairs) (λ m. IsEulerian (structure_of m) pairs) (SamplesEulerian pairs choices) choices sample
@@ -169,7 +171,7 @@ each_eulerian_list_is_sampled pairs is choices valid =
     let ranks : List ℕ = take (nodes_of_profile pairs) (drop (suc (edges_of pairs)) choices) in
     let free : ℕ = slice_index choices (suc (edges_of pairs) + nodes_of_profile pairs) in
     let coded : length code ≡ suc (edges_of pairs) = arrangement_long pairs choices valid in
-    let preorder : HasPreorder (halves_of pairs) code = preorder_exists pairs code is coded (arrangement_is_valid pairs choices valid) in
+    let preorder : HasPreorder 1 (halves_of pairs) code = preorder_exists pairs code is coded (arrangement_is_valid pairs choices valid) in
     let p : IsPreorder pairs preorder.start preorder.objects = preorder_is pairs code preorder.start preorder.objects is coded preorder.are_preordered in
     let long = p.long in
     let some = halves_some pairs is in

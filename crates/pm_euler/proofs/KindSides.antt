@@ -12,7 +12,7 @@ use Rattle.pm_trees.proofs.Ranked.{patterns_ranked}
 use Rattle.pm_words.specs.Word.{IsGood}
 use Rattle.pm_words.specs.Plane.{Trees, none as no_trees, tree, how_many, letter_of, words_of}
 use Rattle.pm_words.proofs.PlaneWords.{IsGood-word_of}
-use Rattle.pm_euler.specs.Objects.{half_of, letters_of}
+use Rattle.pm_objects.specs.Objects.{arity_of, letters_of}
 use Rattle.pm_euler.specs.Planted.{filled}
 use Rattle.pm_euler.specs.PlanePlanted.{AreSides}
 use Rattle.pm_euler.specs.PlanePlanted.AreSides.{none as no_sides, leaf as leaf_side, node as node_side}
@@ -22,16 +22,16 @@ use Rattle.pm_euler.proofs.PlaneTexts.{half_degrees}
 use Rattle.pm_euler.proofs.SideReading.{halves_in}
 
 -- the kind of an object
-pub kind_leaf : (halves ranks : List ℕ) (object : ℕ) → half_of halves object ≡ 0 → kind_of halves ranks object ≡ (0, 0)
+pub kind_leaf : (halves ranks : List ℕ) (object : ℕ) → arity_of halves object ≡ 0 → kind_of halves ranks object ≡ (0, 0)
 kind_leaf halves ranks object e =
-    let b = eq-eqb (half_of halves object) 0 e in
-    let r : (if half_of halves object == 0 then 0 else slice_index_or ranks object 0) ≡ 0 = rw b refl in
+    let b = eq-eqb (arity_of halves object) 0 e in
+    let r : (if arity_of halves object == 0 then 0 else slice_index_or ranks object 0) ≡ 0 = rw b refl in
     cc
 
-pub kind_node : (halves ranks : List ℕ) (object : ℕ) → 0 < half_of halves object → kind_of halves ranks object ≡ (half_of halves object, slice_index_or ranks object 0)
+pub kind_node : (halves ranks : List ℕ) (object : ℕ) → 0 < arity_of halves object → kind_of halves ranks object ≡ (arity_of halves object, slice_index_or ranks object 0)
 kind_node halves ranks object some =
-    let b = ne_eqb (half_of halves object) 0 (λ e. omega (arith, e, some)) in
-    let r : (if half_of halves object == 0 then 0 else slice_index_or ranks object 0) ≡ slice_index_or ranks object 0 = rw b refl in
+    let b = ne_eqb (arity_of halves object) 0 (λ e. omega (arith, e, some)) in
+    let r : (if arity_of halves object == 0 then 0 else slice_index_or ranks object 0) ≡ slice_index_or ranks object 0 = rw b refl in
     cc
 
 pub sides_kinds : (halves ranks objects : List ℕ) (texts : List (List ℕ)) → AreSides halves ranks objects texts → AreSidesOfKinds (kinds_of halves ranks objects) texts
@@ -41,20 +41,20 @@ sides_kinds halves ranks _ _ (leaf_side object later texts z h) =
     (leaf (kinds_of halves ranks later) texts (sides_kinds halves ranks later texts h))
 sides_kinds halves ranks _ _ (node_side object under later pattern sides texts s p h e k) =
     let text : List ℕ = OPEN ∷ filled pattern sides ++ CLOSE ∷ [] in
-    let kind : ℕ × ℕ = (half_of halves object, slice_index_or ranks object 0) in
+    let kind : ℕ × ℕ = (arity_of halves object, slice_index_or ranks object 0) in
     subst (λ (k : ℕ × ℕ). AreSidesOfKinds (k ∷ kinds_of halves ranks (under ++ later)) (text ∷ texts)) (sym (kind_node halves ranks object s))
     (subst (λ (ks : List (ℕ × ℕ)). AreSidesOfKinds (kind ∷ ks) (text ∷ texts)) (sym (map-append (kind_of halves ranks) under later))
-    (node (half_of halves object) (slice_index_or ranks object 0) (kinds_of halves ranks under) (kinds_of halves ranks later) pattern sides texts s p
+    (node (arity_of halves object) (slice_index_or ranks object 0) (kinds_of halves ranks under) (kinds_of halves ranks later) pattern sides texts s p
     (sides_kinds halves ranks under sides h) e (sides_kinds halves ranks later texts k)))
 
 -- the half degree and the rank that a kind tells
 record IsOfKind (halves ranks : List ℕ) (object half rank : ℕ) : Type 0 where
-  half_is : half_of halves object ≡ half
+  half_is : arity_of halves object ≡ half
   rank_is : 0 < half → slice_index_or ranks object 0 ≡ rank
 
 of_kind : (halves ranks : List ℕ) (object half rank : ℕ) → kind_of halves ranks object ≡ (half, rank) → IsOfKind halves ranks object half rank
 of_kind halves ranks object half rank e =
-    let h : half_of halves object ≡ half = ap (λ (k : ℕ × ℕ). k.0) e in
+    let h : arity_of halves object ≡ half = ap (λ (k : ℕ × ℕ). k.0) e in
     record {
       half_is = h;
       rank_is = λ some. ap (λ (k : ℕ × ℕ). k.1) (sym (kind_node halves ranks object (omega (arith, h, some))) ∙ e);
@@ -79,8 +79,8 @@ kinds_sides halves ranks _ _ (object ∷ objects) (node half rank under later pa
     let kind = of_kind halves ranks object half rank first in
     let half_is = kind.half_is in
     let text : List ℕ = OPEN ∷ filled pattern sides ++ CLOSE ∷ [] in
-    let ranked : HasRank (half_of halves object) pattern (slice_index_or ranks object 0) =
-    subst (λ (r : ℕ). HasRank (half_of halves object) pattern r) (sym (kind.rank_is s)) (subst (λ (h : ℕ). HasRank h pattern rank) (sym half_is) p) in
+    let ranked : HasRank (arity_of halves object) pattern (slice_index_or ranks object 0) =
+    subst (λ (r : ℕ). HasRank (arity_of halves object) pattern r) (sym (kind.rank_is s)) (subst (λ (h : ℕ). HasRank h pattern rank) (sym half_is) p) in
     subst (λ (os : List ℕ). AreSides halves ranks (object ∷ os) (text ∷ texts)) (take-append-drop n objects)
     (node_side object (take n objects) (drop n objects) pattern sides texts (omega (arith, half_is, s)) ranked
     (kinds_sides halves ranks under sides (take n objects) h below) (l ∙ sym half_is) (kinds_sides halves ranks later texts (drop n objects) k behind))
@@ -126,7 +126,7 @@ kinds_good kinds word h =
 
 pub letters_of_kinds : (halves ranks objects : List ℕ) → letters_in (kinds_of halves ranks objects) ≡ letters_of halves objects
 letters_of_kinds halves ranks [] = refl
-letters_of_kinds halves ranks (object ∷ objects) = ap (λ (ls : List ℤ). letter_of (half_of halves object) ∷ ls) (letters_of_kinds halves ranks objects)
+letters_of_kinds halves ranks (object ∷ objects) = ap (λ (ls : List ℤ). letter_of (arity_of halves object) ∷ ls) (letters_of_kinds halves ranks objects)
 
 -- each tree is counted once among the children of an object or as a first one
 pub kinds_long : (kinds : List (ℕ × ℕ)) (texts : List (List ℕ)) → AreSidesOfKinds kinds texts → length kinds ≡ length texts + sum (halves_in kinds)
@@ -151,4 +151,4 @@ kinds_each _ _ (node half rank under later pattern sides texts s p h l k) =
 
 pub halves_in_kinds : (halves ranks objects : List ℕ) → halves_in (kinds_of halves ranks objects) ≡ half_degrees halves objects
 halves_in_kinds halves ranks [] = refl
-halves_in_kinds halves ranks (object ∷ objects) = ap (λ (hs : List ℕ). half_of halves object ∷ hs) (halves_in_kinds halves ranks objects)
+halves_in_kinds halves ranks (object ∷ objects) = ap (λ (hs : List ℕ). arity_of halves object ∷ hs) (halves_in_kinds halves ranks objects)

@@ -15,14 +15,9 @@ pub mod EulerianUnsampled
 pub mod FilledRows
 pub mod FoldedKinds
 pub mod FreeLeaves
-pub mod HalfCodes
 pub mod KindSides
-pub mod ObjectBlocks
 pub mod ObjectLemmas
 pub mod ObjectPlaces
-pub mod ObjectSums
-pub mod ObjectsFound
-pub mod ObjectsPut
 pub mod OneSample
 pub mod OneUnplanting
 pub mod PlaneLaws
@@ -43,12 +38,10 @@ pub mod QuarticUnsampled
 pub mod ReadingSteps
 pub mod RootRows
 pub mod Rows
-pub mod SameCounts
 pub mod SameSides
 pub mod SidePatterns
 pub mod SideReading
 pub mod SideTexts
 pub mod SidesBehind
 pub mod SomeUnplanting
-pub mod Sorting
 pub mod WordKinds

@@ -12,7 +12,7 @@ use Rattle.pm_trees.specs.Degrees.{nodes_of}
 use Rattle.pm_trees.proofs.Tally.{tally, tally-nil, tally_yes, tally_no}
 use Rattle.pm_trees.proofs.Weights.{weight}
 use Rattle.pm_trees.proofs.Rings.{of_degree, of_degree_is, nodes_weight, bad, bad_is}
-use Rattle.pm_euler.specs.Objects.{half_of}
+use Rattle.pm_objects.specs.Objects.{arity_of}
 use Rattle.pm_euler.specs.PlanePlanted.{IsPlantedPlane}
 use Rattle.pm_euler.proofs.Rows.{object_value, object_value_leaf, object_value_node, total, total-nil, total-cons}
 use Rattle.pm_euler.proofs.RootRows.{root_length, root_leaves, root_weight, root_blossoming}
@@ -21,27 +21,27 @@ use Rattle.pm_euler.proofs.PlaneTexts.{half_degrees, plane_root_row}
 pub plane_planted_length : (halves ranks objects word : List ℕ) → IsPlantedPlane halves ranks objects word → suc (length word) ≡ 2 * (length objects - 1)
 plane_planted_length halves ranks objects word h =
     let l = root_length (half_degrees halves objects) word (plane_root_row halves ranks objects word h) in
-    let long = length-map objects (λ object. half_of halves object) in
+    let long = length-map objects (λ object. arity_of halves object) in
     omega (arith, l, long)
 
 -- how many objects have this half degree
-tally_objects : (half : ℕ) (halves objects : List ℕ) → tally half (half_degrees halves objects) ≡ count_by (λ object. half_of halves object == half) objects
+tally_objects : (half : ℕ) (halves objects : List ℕ) → tally half (half_degrees halves objects) ≡ count_by (λ object. arity_of halves object == half) objects
 tally_objects half halves [] = tally-nil half
 tally_objects half halves (object ∷ objects) =
     let h = tally_objects half halves objects in
-    let a = sum_by-cons (λ (o : ℕ). cond (half_of halves o == half) 1 0) object objects in
-    elim (cases_eq (half_of halves object) half) [
+    let a = sum_by-cons (λ (o : ℕ). cond (arity_of halves o == half) 1 0) object objects in
+    elim (cases_eq (arity_of halves object) half) [
       | inl e ↦
-          let b = tally_yes half (half_of halves object) (half_degrees halves objects) e in
-          let c : cond {A = ℕ} (half_of halves object == half) 1 0 ≡ 1 = rw (eq-eqb (half_of halves object) half e) refl in
+          let b = tally_yes half (arity_of halves object) (half_degrees halves objects) e in
+          let c : cond {A = ℕ} (arity_of halves object == half) 1 0 ≡ 1 = rw (eq-eqb (arity_of halves object) half e) refl in
           omega (arith, a, b, c, h)
       | inr n ↦
-          let b = tally_no half (half_of halves object) (half_degrees halves objects) n in
-          let c : cond {A = ℕ} (half_of halves object == half) 1 0 ≡ 0 = rw (ne_eqb (half_of halves object) half n) refl in
+          let b = tally_no half (arity_of halves object) (half_degrees halves objects) n in
+          let c : cond {A = ℕ} (arity_of halves object == half) 1 0 ≡ 0 = rw (ne_eqb (arity_of halves object) half n) refl in
           omega (arith, a, b, c, h)
     ]
 
-pub plane_planted_leaves : (halves ranks objects word : List ℕ) → IsPlantedPlane halves ranks objects word → leaves word ≡ suc (count_by (λ object. half_of halves object == 0) objects)
+pub plane_planted_leaves : (halves ranks objects word : List ℕ) → IsPlantedPlane halves ranks objects word → leaves word ≡ suc (count_by (λ object. arity_of halves object == 0) objects)
 plane_planted_leaves halves ranks objects word h =
     let l = root_leaves (half_degrees halves objects) word (plane_root_row halves ranks objects word h) in
     let t = tally_objects 0 halves objects in
@@ -70,24 +70,24 @@ object_of_degree half (suc buds) s =
           omega (arith, a, b, c, d)
     ]
 
-total_of_degree : (half : ℕ) (halves objects : List ℕ) → 0 < half → total (of_degree (2 * half)) (half_degrees halves objects) ≡ count_by (λ object. half_of halves object == half) objects
+total_of_degree : (half : ℕ) (halves objects : List ℕ) → 0 < half → total (of_degree (2 * half)) (half_degrees halves objects) ≡ count_by (λ object. arity_of halves object == half) objects
 total_of_degree half halves [] s = total-nil (of_degree (2 * half))
 total_of_degree half halves (object ∷ objects) s =
     let h = total_of_degree half halves objects s in
-    let a = total-cons (of_degree (2 * half)) (half_of halves object) (half_degrees halves objects) in
-    let b = object_of_degree half (half_of halves object) s in
-    let c = sum_by-cons (λ (o : ℕ). cond (half_of halves o == half) 1 0) object objects in
+    let a = total-cons (of_degree (2 * half)) (arity_of halves object) (half_degrees halves objects) in
+    let b = object_of_degree half (arity_of halves object) s in
+    let c = sum_by-cons (λ (o : ℕ). cond (arity_of halves o == half) 1 0) object objects in
     omega (arith, a, b, c, h)
 
-pub plane_planted_nodes : (halves ranks objects word : List ℕ) (half : ℕ) → 0 < half → IsPlantedPlane halves ranks objects word → nodes_of word (2 * half) ≡ count_by (λ object. half_of halves object == half) objects
+pub plane_planted_nodes : (halves ranks objects word : List ℕ) (half : ℕ) → 0 < half → IsPlantedPlane halves ranks objects word → nodes_of word (2 * half) ≡ count_by (λ object. arity_of halves object == half) objects
 plane_planted_nodes halves ranks objects word half s h = nodes_weight word (2 * half) ∙ plane_weight halves ranks objects word (of_degree (2 * half)) h ∙ total_of_degree half halves objects s
 
 -- nothing at any object
-total_none : (f : ℕ → ℕ → ℕ) (halves objects : List ℕ) → ((object : ℕ) → object_value f (half_of halves object) ≡ 0) → total f (half_degrees halves objects) ≡ 0
+total_none : (f : ℕ → ℕ → ℕ) (halves objects : List ℕ) → ((object : ℕ) → object_value f (arity_of halves object) ≡ 0) → total f (half_degrees halves objects) ≡ 0
 total_none f halves [] z = total-nil f
 total_none f halves (object ∷ objects) z =
     let h = total_none f halves objects z in
-    let a = total-cons f (half_of halves object) (half_degrees halves objects) in
+    let a = total-cons f (arity_of halves object) (half_degrees halves objects) in
     let b = z object in
     omega (arith, a, b, h)
 
@@ -99,7 +99,7 @@ object_of_no_degree d (suc buds) n =
 
 pub plane_planted_no_odd : (halves ranks objects word : List ℕ) (d : ℕ) → IsPlantedPlane halves ranks objects word → ((half : ℕ) → 0 < half → d ≡ 2 * half → ⊥) → nodes_of word d ≡ 0
 plane_planted_no_odd halves ranks objects word d h n =
-    nodes_weight word d ∙ plane_weight halves ranks objects word (of_degree d) h ∙ total_none (of_degree d) halves objects (λ object. object_of_no_degree d (half_of halves object) n)
+    nodes_weight word d ∙ plane_weight halves ranks objects word (of_degree d) h ∙ total_none (of_degree d) halves objects (λ object. object_of_no_degree d (arity_of halves object) n)
 
 object_bad : (half : ℕ) → half ≤ MAX_DEGREE / 2 → object_value bad half ≡ 0
 object_bad zero l = object_value_leaf bad
@@ -109,15 +109,15 @@ object_bad (suc buds) l =
     omega (arith, a, b, l)
 
 -- each half degree is within the limit
-half_few : (halves : List ℕ) (object : ℕ) → All IsHalfDegree halves → half_of halves object ≤ MAX_DEGREE / 2
+half_few : (halves : List ℕ) (object : ℕ) → All IsHalfDegree halves → arity_of halves object ≤ MAX_DEGREE / 2
 half_few halves object all =
     elim (cases_lt object (length halves)) [
       | inl l ↦ (all object 0 l).few
-      | inr g ↦ (let a : half_of halves object ≡ 0 = get_or_past halves object 0 g in omega (arith, a))
+      | inr g ↦ (let a : arity_of halves object ≡ 0 = get_or_past halves object 0 g in omega (arith, a))
     ]
 
 pub plane_planted_blossoming : (halves ranks objects word : List ℕ) → All IsHalfDegree halves → IsPlantedPlane halves ranks objects word → length objects ≤ suc MAX_EDGES → IsBlossoming word
 plane_planted_blossoming halves ranks objects word all h few =
-    let none = total_none bad halves objects (λ object. object_bad (half_of halves object) (half_few halves object all)) in
-    let long = length-map objects (λ object. half_of halves object) in
+    let none = total_none bad halves objects (λ object. object_bad (arity_of halves object) (half_few halves object all)) in
+    let long = length-map objects (λ object. arity_of halves object) in
     root_blossoming (half_degrees halves objects) word (plane_root_row halves ranks objects word h) none (omega (arith, long, few))

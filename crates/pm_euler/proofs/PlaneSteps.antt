@@ -11,7 +11,7 @@ use Rattle.pm_trees.proofs.Ranked.{patterns_ranked, of_pattern}
 use Rattle.pm_trees.proofs.Ranking.{IsTwo}
 use Rattle.pm_trees.proofs.Tally.{tally, tally-nil, tally_yes, tally_no, tally-append}
 use Rattle.pm_words.specs.Word.{IsGood}
-use Rattle.pm_euler.specs.Objects.{half_of, letters_of}
+use Rattle.pm_objects.specs.Objects.{arity_of, letters_of}
 use Rattle.pm_euler.specs.Planted.{filled}
 use Rattle.pm_euler.specs.PlanePlanted.{AreSides, IsPlantedPlane}
 use Rattle.pm_euler.specs.PlanePlanted.AreSides.{none, leaf, node}
@@ -85,7 +85,7 @@ record IsLeafFirst (halves ranks later : List ℕ) (texts : List (List ℕ)) : T
   texts_are : texts ≡ (LEAF ∷ []) ∷ others
   are_sides : AreSides halves ranks later others
 
-leaf_first : (halves ranks xs : List ℕ) (texts : List (List ℕ)) (object : ℕ) (later : List ℕ) → AreSides halves ranks xs texts → xs ≡ object ∷ later → half_of halves object ≡ 0 → IsLeafFirst halves ranks later texts
+leaf_first : (halves ranks xs : List ℕ) (texts : List (List ℕ)) (object : ℕ) (later : List ℕ) → AreSides halves ranks xs texts → xs ≡ object ∷ later → arity_of halves object ≡ 0 → IsLeafFirst halves ranks later texts
 leaf_first halves ranks _ _ object later none e z = cc
 leaf_first halves ranks _ _ object later (leaf first others texts y h) e z =
     let o : others ≡ later = cc in
@@ -93,7 +93,7 @@ leaf_first halves ranks _ _ object later (leaf first others texts y h) e z =
 leaf_first halves ranks _ _ object later (node first under others pattern sides texts some p h n k) e z =
     absurd (
     let o : first ≡ object = cc in
-    let f = ap (half_of halves) o in
+    let f = ap (arity_of halves) o in
     omega arith
     )
 
@@ -102,17 +102,17 @@ record IsNodeFirst (halves ranks : List ℕ) (object : ℕ) (later : List ℕ) (
   pattern : List ℕ
   sides : List (List ℕ)
   others : List (List ℕ)
-  has_rank : HasRank (half_of halves object) pattern (slice_index_or ranks object 0)
-  counted : length sides ≡ half_of halves object
+  has_rank : HasRank (arity_of halves object) pattern (slice_index_or ranks object 0)
+  counted : length sides ≡ arity_of halves object
   texts_are : texts ≡ (OPEN ∷ filled pattern sides ++ CLOSE ∷ []) ∷ others
   are_sides : AreSides halves ranks later (sides ++ others)
 
-node_first : (halves ranks xs : List ℕ) (texts : List (List ℕ)) (object : ℕ) (later : List ℕ) → AreSides halves ranks xs texts → xs ≡ object ∷ later → 0 < half_of halves object → IsNodeFirst halves ranks object later texts
+node_first : (halves ranks xs : List ℕ) (texts : List (List ℕ)) (object : ℕ) (later : List ℕ) → AreSides halves ranks xs texts → xs ≡ object ∷ later → 0 < arity_of halves object → IsNodeFirst halves ranks object later texts
 node_first halves ranks _ _ object later none e some = cc
 node_first halves ranks _ _ object later (leaf first others texts z h) e some =
     absurd (
     let o : first ≡ object = cc in
-    let f = ap (half_of halves) o in
+    let f = ap (arity_of halves) o in
     omega arith
     )
 node_first halves ranks _ _ object later (node first under others pattern sides texts more p h n k) e some =
@@ -122,8 +122,8 @@ node_first halves ranks _ _ object later (node first under others pattern sides 
       pattern = pattern;
       sides = sides;
       others = texts;
-      has_rank = subst (λ (i : ℕ). HasRank (half_of halves i) pattern (slice_index_or ranks i 0)) o p;
-      counted = n ∙ ap (half_of halves) o;
+      has_rank = subst (λ (i : ℕ). HasRank (arity_of halves i) pattern (slice_index_or ranks i 0)) o p;
+      counted = n ∙ ap (arity_of halves) o;
       texts_are = refl;
       are_sides = subst (λ (xs : List ℕ). AreSides halves ranks xs (sides ++ texts)) l (beside halves ranks under others sides texts h k);
     }
@@ -147,7 +147,7 @@ pub record IsBegun (halves ranks objects letters ahead : List ℕ) (next : ℕ) 
   pub is_planted : IsPlantedPlane halves ranks objects (letters ++ placed (reverse ahead) texts)
 
 -- the root is a node object
-root_some : (halves ranks xs : List ℕ) (texts : List (List ℕ)) (word : List ℕ) → AreSides halves ranks xs texts → texts ≡ (OPEN ∷ word ++ CLOSE ∷ []) ∷ [] → 0 < half_of halves (slice_index xs 0)
+root_some : (halves ranks xs : List ℕ) (texts : List (List ℕ)) (word : List ℕ) → AreSides halves ranks xs texts → texts ≡ (OPEN ∷ word ++ CLOSE ∷ []) ∷ [] → 0 < arity_of halves (slice_index xs 0)
 root_some halves ranks _ _ word none e = cc
 root_some halves ranks _ _ word (leaf object later texts z h) e = absurd (let a : LEAF ≡ OPEN = cc in omega (arith, a))
 root_some halves ranks _ _ word (node object under later pattern sides texts some p h n k) e = some
@@ -171,14 +171,14 @@ begun_start halves ranks objects letters pattern ahead half_degrees below many g
     let w = plane_planted_exists halves ranks objects half_degrees below many good in
     let root : ℕ = slice_index objects 0 in
     let whole : List (List ℕ) = (OPEN ∷ w.0 ++ CLOSE ∷ []) ∷ [] in
-    let some : 0 < half_of halves root = root_some halves ranks objects whole w.0 w.1 refl in
+    let some : 0 < arity_of halves root = root_some halves ranks objects whole w.0 w.1 refl in
     let first : objects ≡ root ∷ drop 1 objects = drop-cons objects 0 0 (omega arith) in
     let n = node_first halves ranks objects whole root (drop 1 objects) w.1 first some in
-    let same : n.pattern ≡ pattern = same_pattern (half_of halves root) (slice_index ranks root) n.pattern pattern some n.has_rank p in
+    let same : n.pattern ≡ pattern = same_pattern (arity_of halves root) (slice_index ranks root) n.pattern pattern some n.has_rank p in
     let none_more : n.others ≡ [] = (let e = n.texts_are in cc) in
     let word : w.0 ≡ filled n.pattern n.sides = (same_push w.0 (filled n.pattern n.sides) CLOSE CLOSE (let e = n.texts_are in cc)).lists in
     let all : n.sides ++ n.others ≡ n.sides = ap (λ (ts : List (List ℕ)). n.sides ++ ts) none_more ∙ append-nil n.sides in
-    let put = pattern_put (half_of halves root) (slice_index ranks root) n.pattern [] n.sides [] n.has_rank n.counted in
+    let put = pattern_put (arity_of halves root) (slice_index ranks root) n.pattern [] n.sides [] n.has_rank n.counted in
     let stack : reverse ahead ≡ n.pattern ++ [] = ap reverse a ∙ reverse-reverse pattern ∙ sym same ∙ sym (append-nil n.pattern) in
     let rest : placed (reverse ahead) n.sides ≡ w.0 =
     ap (λ (xs : List ℕ). placed xs n.sides) stack ∙ ap (placed (n.pattern ++ [])) (sym (append-nil n.sides)) ∙ put.letters ∙ append-nil (filled n.pattern n.sides) ∙ sym word in
@@ -229,7 +229,7 @@ pub begun_leaf : (halves ranks objects letters more items ahead : List ℕ) (nex
 begun_leaf halves ranks objects letters more items ahead next after x b e s above m i =
     let object : ℕ = slice_index objects next in
     let first = drop-cons objects next 0 (next_within halves ranks objects letters items ahead next x b e s) in
-    let none_under : half_of halves object ≡ 0 = elim (cases_eq (half_of halves object) 0) [
+    let none_under : arity_of halves object ≡ 0 = elim (cases_eq (arity_of halves object) 0) [
       | inl z ↦ z
       | inr n ↦ absurd (let w = node_object halves object (omega arith) in omega arith)
     ] in
@@ -253,13 +253,13 @@ begun_node halves ranks objects letters more items ahead pattern later next afte
     let object : ℕ = slice_index objects next in
     let first = drop-cons objects next 0 (next_within halves ranks objects letters items ahead next x b e s) in
     let n = node_first halves ranks (drop next objects) b.texts object (drop (suc next) objects) b.are_sides first some in
-    let same : n.pattern ≡ pattern = same_pattern (half_of halves object) (slice_index ranks object) n.pattern pattern some n.has_rank p in
+    let same : n.pattern ≡ pattern = same_pattern (arity_of halves object) (slice_index ranks object) n.pattern pattern some n.has_rank p in
     let c = begun_slot halves ranks objects letters items ahead next x b e s in
     let t = ap length n.texts_are in
     let r = last_first items ahead x e in
     let stack : reverse later ≡ n.pattern ++ (CLOSE ∷ reverse ahead) =
     ap reverse a ∙ reverse-append (ahead ++ CLOSE ∷ []) (reverse pattern) ∙ ap (λ (xs : List ℕ). xs ++ reverse (ahead ++ CLOSE ∷ [])) (reverse-reverse pattern ∙ sym same) ∙ ap (λ (xs : List ℕ). n.pattern ++ xs) (last_first (ahead ++ CLOSE ∷ []) ahead CLOSE refl) in
-    let put = pattern_put (half_of halves object) (slice_index ranks object) n.pattern (CLOSE ∷ reverse ahead) n.sides n.others n.has_rank n.counted in
+    let put = pattern_put (arity_of halves object) (slice_index ranks object) n.pattern (CLOSE ∷ reverse ahead) n.sides n.others n.has_rank n.counted in
     let filling : List ℕ = filled n.pattern n.sides in
     let closing : placed (CLOSE ∷ reverse ahead) n.others ≡ CLOSE ∷ placed (reverse ahead) n.others = placed_plain CLOSE (reverse ahead) n.others (λ w. omega arith) in
     let behind : placed (reverse later) (n.sides ++ n.others) ≡ filling ++ CLOSE ∷ placed (reverse ahead) n.others =

@@ -2,7 +2,7 @@
 use Rattle.std.proofs.Common.{◌≡◌, ℕ, List, [], ◌∷◌, ◌++◌, map, refl, ap, sym, ◌∙◌, subst, arith, append-nil}
 use Rattle.std.proofs.lemmas.List.{map-append}
 use Rattle.pm_trees.specs.declared.letters.TheConstants.{LEAF, OPEN, CLOSE}
-use Rattle.pm_euler.specs.Objects.{half_of}
+use Rattle.pm_objects.specs.Objects.{arity_of}
 use Rattle.pm_euler.specs.Planted.{filled}
 use Rattle.pm_euler.specs.PlanePlanted.{AreSides, IsPlantedPlane}
 use Rattle.pm_euler.specs.PlanePlanted.AreSides.{none, leaf, node}
@@ -14,10 +14,10 @@ use Rattle.pm_euler.proofs.FilledRows.AreRows.{no_rows, one_row}
 
 -- the half degrees of these objects
 abbrev pub half_degrees : List ℕ → List ℕ → List ℕ
-half_degrees halves objects = map (λ object. half_of halves object) objects
+half_degrees halves objects = map (λ object. arity_of halves object) objects
 
 half_degrees-append : (halves objects others : List ℕ) → half_degrees halves (objects ++ others) ≡ half_degrees halves objects ++ half_degrees halves others
-half_degrees-append halves objects others = map-append (λ object. half_of halves object) objects others
+half_degrees-append halves objects others = map-append (λ object. arity_of halves object) objects others
 
 pub sides_rows : (halves ranks objects : List ℕ) (texts : List (List ℕ)) → AreSides halves ranks objects texts → AreRows (half_degrees halves objects) texts
 sides_rows halves ranks _ _ none = no_rows
@@ -25,7 +25,7 @@ sides_rows halves ranks _ _ (leaf object later texts e h) =
     subst (λ (half : ℕ). AreRows (half ∷ half_degrees halves later) ((LEAF ∷ []) ∷ texts)) (sym e)
     (one_row (0 ∷ []) (half_degrees halves later) (LEAF ∷ []) texts row_leaf (sides_rows halves ranks later texts h))
 sides_rows halves ranks _ _ (node object under later pattern sides texts s p h e k) =
-    let half : ℕ = half_of halves object in
+    let half : ℕ = arity_of halves object in
     let text : List ℕ = OPEN ∷ filled pattern sides ++ CLOSE ∷ [] in
     let root = node_row half pattern (half_degrees halves under) sides p.is_pattern e (sides_rows halves ranks under sides h) in
     let side = root_side (half ∷ half_degrees halves under) (filled pattern sides) root in
@@ -46,9 +46,9 @@ root_of halves ranks _ _ word (node object under later pattern sides texts s p h
     let w = same_push (filled pattern sides) word CLOSE CLOSE t in
     let alone = no_objects halves ranks later texts k (cc) in
     let all : under ≡ under ++ later = sym (ap (λ (os : List ℕ). under ++ os) alone ∙ append-nil under) in
-    let root = node_row (half_of halves object) pattern (half_degrees halves under) sides p.is_pattern d (sides_rows halves ranks under sides h) in
-    subst (λ (os : List ℕ). IsRootRow (half_of halves object ∷ half_degrees halves os) word) all
-    (subst (IsRootRow (half_of halves object ∷ half_degrees halves under)) w.lists root)
+    let root = node_row (arity_of halves object) pattern (half_degrees halves under) sides p.is_pattern d (sides_rows halves ranks under sides h) in
+    subst (λ (os : List ℕ). IsRootRow (arity_of halves object ∷ half_degrees halves os) word) all
+    (subst (IsRootRow (arity_of halves object ∷ half_degrees halves under)) w.lists root)
 
 pub plane_root_row : (halves ranks objects word : List ℕ) → IsPlantedPlane halves ranks objects word → IsRootRow (half_degrees halves objects) word
 plane_root_row halves ranks objects word h = root_of halves ranks objects ((OPEN ∷ word ++ CLOSE ∷ []) ∷ []) word h refl

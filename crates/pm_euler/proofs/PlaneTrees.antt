@@ -12,8 +12,8 @@ use Rattle.pm_words.specs.Word.{IsGood}
 use Rattle.pm_words.specs.Plane.{Trees, none, tree, how_many, letter_of, children_of, words_of, word_of, trees_of, subtrees_of}
 use Rattle.pm_words.proofs.PlaneWords.{word_of-subtrees_of}
 use Rattle.pm_words.specs.PlaneCode.{children_of-letter_of}
-use Rattle.pm_euler.proofs.ObjectLemmas.{letters_word}
-use Rattle.pm_euler.specs.Objects.{half_of, letters_of}
+use Rattle.pm_objects.proofs.ObjectCounts.{letters_word}
+use Rattle.pm_objects.specs.Objects.{arity_of, letters_of}
 use Rattle.pm_euler.specs.Planted.{filled}
 use Rattle.pm_euler.specs.PlanePlanted.{AreSides, IsPlantedPlane}
 use Rattle.pm_euler.specs.PlanePlanted.AreSides.{none as no_sides, leaf, node}
@@ -26,7 +26,7 @@ pub record HasRanks (halves ranks : List ℕ) : Type 0 where
   pub below : (k : ℕ) → k < length halves → slice_index ranks k < choose (2 * slice_index halves k - 1) (slice_index halves k)
 
 -- an object with a half degree is a node object
-pub node_object : (halves : List ℕ) (object : ℕ) → 0 < half_of halves object → object < length halves
+pub node_object : (halves : List ℕ) (object : ℕ) → 0 < arity_of halves object → object < length halves
 node_object [] object some = absurd (omega arith)
 node_object (half ∷ halves) zero some = omega arith
 node_object (half ∷ halves) (suc object) some = let h = node_object halves object some in omega arith
@@ -52,18 +52,18 @@ same_sides halves ranks _ _ more rest _ _ (leaf a later texts z h) (leaf b other
 same_sides halves ranks _ _ more rest _ _ (leaf a later texts z h) (node b under others pattern sides also some p i n k) l e =
     absurd (
     let o : a ≡ b = cc in
-    let f = ap (half_of halves) o in
+    let f = ap (arity_of halves) o in
     omega arith
     )
 same_sides halves ranks _ _ more rest _ _ (node a under later pattern sides texts some p i n k) (leaf b others also z h) l e =
     absurd (
     let o : a ≡ b = cc in
-    let f = ap (half_of halves) o in
+    let f = ap (arity_of halves) o in
     omega arith
     )
 same_sides halves ranks _ _ more rest _ _ (node a under later pattern sides texts some p i n h) (node b below others alike fillings also more_than q j m k) l e =
     let o : a ≡ b = cc in
-    let f = ap (half_of halves) o in
+    let f = ap (arity_of halves) o in
     let c : (under ++ later) ++ more ≡ (below ++ others) ++ rest = cc in
     let d : under ++ (later ++ more) ≡ below ++ (others ++ rest) = sym (append_assoc under later more) ∙ c ∙ append_assoc below others rest in
     let s = same_sides halves ranks under below (later ++ more) (others ++ rest) sides fillings i j (omega arith) d in
@@ -74,8 +74,8 @@ same_sides halves ranks _ _ more rest _ _ (node a under later pattern sides text
     let w = t.same_objects in
     let x = t.same_texts in
     let r : pattern ≡ alike =
-    (patterns_ranked (half_of halves b) more_than).one_pattern pattern alike (slice_index_or ranks b 0)
-    (subst (λ (object : ℕ). HasRank (half_of halves object) pattern (slice_index_or ranks object 0)) o p) q in
+    (patterns_ranked (arity_of halves b) more_than).one_pattern pattern alike (slice_index_or ranks b 0)
+    (subst (λ (object : ℕ). HasRank (arity_of halves object) pattern (slice_index_or ranks object 0)) o p) q in
     record { same_objects = cc; same_texts = cc }
 
 -- a planted plane tree has one word
@@ -86,9 +86,9 @@ plane_planted_unique halves ranks objects one other h k =
     (same_push one other CLOSE CLOSE cc).lists
 
 -- a pattern for each node object
-pattern_of : (halves ranks : List ℕ) (object : ℕ) → HasRanks halves ranks → 0 < half_of halves object → (pattern : List ℕ) × HasRank (half_of halves object) pattern (slice_index_or ranks object 0)
+pattern_of : (halves ranks : List ℕ) (object : ℕ) → HasRanks halves ranks → 0 < arity_of halves object → (pattern : List ℕ) × HasRank (arity_of halves object) pattern (slice_index_or ranks object 0)
 pattern_of halves ranks object h some =
-    (patterns_ranked (half_of halves object) some).has_pattern (slice_index_or ranks object 0) (h.below object (node_object halves object some))
+    (patterns_ranked (arity_of halves object) some).has_pattern (slice_index_or ranks object 0) (h.below object (node_object halves object some))
 
 -- plane trees with these objects
 record HaveSides (halves ranks objects : List ℕ) (many : ℕ) : Type 0 where
@@ -97,8 +97,8 @@ record HaveSides (halves ranks objects : List ℕ) (many : ℕ) : Type 0 where
   counted : length texts ≡ many
 
 -- a first tree, which is a leaf or a node, before others
-one_more : (halves ranks : List ℕ) (object : ℕ) (under later : List ℕ) (many : ℕ) → HasRanks halves ranks → HaveSides halves ranks under (half_of halves object) → HaveSides halves ranks later many → HaveSides halves ranks (object ∷ under ++ later) (suc many)
-one_more halves ranks object under later many ranked h k = elim (cases_eq (half_of halves object) 0) [
+one_more : (halves ranks : List ℕ) (object : ℕ) (under later : List ℕ) (many : ℕ) → HasRanks halves ranks → HaveSides halves ranks under (arity_of halves object) → HaveSides halves ranks later many → HaveSides halves ranks (object ∷ under ++ later) (suc many)
+one_more halves ranks object under later many ranked h k = elim (cases_eq (arity_of halves object) 0) [
   | inl z ↦
       let none_under : under ≡ [] = no_objects halves ranks under h.texts h.are_sides (nil_from_length h.texts (h.counted ∙ z)) in
       record {
@@ -107,7 +107,7 @@ one_more halves ranks object under later many ranked h k = elim (cases_eq (half_
         counted = ap suc k.counted;
       }
   | inr n ↦
-      let some : 0 < half_of halves object = omega arith in
+      let some : 0 < arity_of halves object = omega arith in
       let p = pattern_of halves ranks object ranked some in
       record {
         texts = (OPEN ∷ filled p.0 h.texts ++ CLOSE ∷ []) ∷ k.texts;
@@ -122,11 +122,11 @@ sides_exist halves ranks [] none ranked e = record { texts = []; are_sides = no_
 sides_exist halves ranks (object ∷ objects) none ranked e = cc
 sides_exist halves ranks [] (tree subtrees others) ranked e = cc
 sides_exist halves ranks (object ∷ objects) (tree subtrees others) ranked e =
-    let first : letter_of (half_of halves object) ≡ letter_of (how_many subtrees) = cc in
-    let half : half_of halves object ≡ how_many subtrees = sym (children_of-letter_of (half_of halves object)) ∙ ap children_of first ∙ children_of-letter_of (how_many subtrees) in
+    let first : letter_of (arity_of halves object) ≡ letter_of (how_many subtrees) = cc in
+    let half : arity_of halves object ≡ how_many subtrees = sym (children_of-letter_of (arity_of halves object)) ∙ ap children_of first ∙ children_of-letter_of (how_many subtrees) in
     let rest : letters_of halves objects ≡ words_of subtrees ++ words_of others = cc in
     let n : ℕ = length (words_of subtrees) in
-    let f : ℕ → ℤ = λ o. letter_of (half_of halves o) in
+    let f : ℕ → ℤ = λ o. letter_of (arity_of halves o) in
     let under : letters_of halves (take n objects) ≡ words_of subtrees = sym (take-map f n objects) ∙ ap (take n) rest ∙ take-append_seam (words_of subtrees) (words_of others) in
     let later : letters_of halves (drop n objects) ≡ words_of others = sym (drop-map f n objects) ∙ ap (drop n) rest ∙ drop-append_seam (words_of subtrees) (words_of others) in
     let h = sides_exist halves ranks (take n objects) subtrees ranked under in

@@ -8,9 +8,11 @@ use Rattle.pm_map.proofs.ClassesKept.{quartic_kept}
 use Rattle.pm_class.specs.ClassLaws.{IsKeptByRenumbering, AreLimits, HasMostEdges}
 use Rattle.pm_class.specs.OneToOne.{AreOneToOne}
 use Rattle.pm_class.proofs.OneToOneLemmas.{one_to_one}
-use Rattle.pm_euler.specs.Bounds.{code_bounds, quartic_choices, quartic_residues}
+use Rattle.pm_objects.specs.Codes.{code_bounds}
+use Rattle.pm_euler.specs.Bounds.{quartic_choices, quartic_residues}
 use Rattle.pm_euler.specs.Quartic.{IsQuarticSize, SamplesQuartic}
-use Rattle.pm_euler.proofs.BoundLemmas.{quartic_choices_are, quartic_residues_are, length-quartic_choices, length-code_bounds, code_bounds_low}
+use Rattle.pm_objects.proofs.CodeBounds.{length-code_bounds, code_bounds_low}
+use Rattle.pm_euler.proofs.BoundLemmas.{quartic_choices_are, quartic_residues_are, length-quartic_choices}
 use Rattle.pm_euler.proofs.OneSample.{one_quartic_sample}
 use Rattle.pm_euler.proofs.QuarticLists.{quartic_darts, each_quartic_pair, one_quartic_list}
 use Rattle.pm_euler.proofs.QuarticSamples.{each_quartic_list_is_sampled}

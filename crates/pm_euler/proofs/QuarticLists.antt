@@ -35,7 +35,8 @@ use Rattle.pm_euler.specs.Closed.{IsCanonicalClosure}
 use Rattle.pm_euler.specs.Quartic.{IsQuarticSize, SamplesQuartic}
 use Rattle.pm_euler.specs.Unplanted.{IsUnplanted}
 use Rattle.pm_class.specs.Unsampling.{HasOneList}
-use Rattle.pm_euler.proofs.BoundLemmas.{length-quartic_choices, length-code_bounds, code_bound, ranks_long}
+use Rattle.pm_objects.proofs.CodeBounds.{length-code_bounds, code_bound}
+use Rattle.pm_euler.proofs.BoundLemmas.{length-quartic_choices, ranks_long}
 use Rattle.pm_euler.proofs.OneUnplanting.{anew_is_once}
 use Rattle.pm_euler.proofs.PlantedReading.{planted_from_word}
 use Rattle.pm_euler.proofs.PlantingTrees.{planted_blossoming, planted_length, planted_leaves}

@@ -21,7 +21,7 @@ use Rattle.pm_euler.specs.Quartic.{SamplesQuartic}
 use Rattle.pm_euler.specs.ShapeRead.{IsPlantedOf}
 use Rattle.pm_euler.specs.Unplanted.{IsUnplanted}
 use Rattle.pm_class.specs.Unsampling.{IsUnsampled}
-use Rattle.pm_euler.proofs.BoundLemmas.{length-code_bounds}
+use Rattle.pm_objects.proofs.CodeBounds.{length-code_bounds}
 use Rattle.pm_euler.proofs.PlantingTrees.{planted_length}
 use Rattle.pm_euler.proofs.QuarticLists.{opening_leaves, unplanted_size, unplanted_reads, tail_is_code, sample_from_labels}
 use Rattle.pm_euler.proofs.QuarticMaps.{quartic_size}

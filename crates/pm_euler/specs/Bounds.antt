@@ -2,17 +2,13 @@
 use Rattle.std.specs.Prelude.{ℕ, zero, suc, ◌+◌, ◌-◌, ◌*◌, List, [], ◌∷◌, ◌++◌, map, flat_map, replicate}
 use Rattle.pm_trees.specs.Binomial.{choose}
 use Rattle.pm_trees.specs.Pairs.{edges_of}
-use Rattle.pm_euler.specs.Objects.{halves_of, nodes_of_profile}
+use Rattle.pm_objects.specs.Codes.{code_bounds}
+use Rattle.pm_euler.specs.Objects.{halves_of, leaves_of_profile}
 
 -- the bounds of n choices of a growth, after this many: choice k, from k = 1, is below 2(2k-1)
 abbrev pub growth_bounds : ℕ → ℕ → List ℕ
 growth_bounds grown zero = []
 growth_bounds grown (suc n) = 2 * (2 * grown + 1) ∷ growth_bounds (suc grown) n
-
--- the bounds of an arrangement code: its length, and one less for each entry
-abbrev pub code_bounds : ℕ → List ℕ
-code_bounds zero = []
-code_bounds (suc n) = suc n ∷ code_bounds n
 
 -- of quartic maps with n vertices: the growth, a pattern for each node, and which free leaf
 abbrev pub quartic_choices : ℕ → List ℕ
@@ -31,5 +27,4 @@ eulerian_choices pairs = code_bounds (suc (edges_of pairs)) ++ map (λ half. cho
 -- old plant is
 abbrev pub eulerian_residues : List (ℕ × ℕ) → List ℕ
 eulerian_residues pairs =
-    let leaves = suc (edges_of pairs) - nodes_of_profile pairs in
-    suc (edges_of pairs) ∷ (flat_map (λ (p : ℕ × ℕ). code_bounds p.1) pairs ++ code_bounds leaves ++ suc leaves ∷ [])
+    suc (edges_of pairs) ∷ (flat_map (λ (p : ℕ × ℕ). code_bounds p.1) pairs ++ code_bounds (leaves_of_profile pairs) ++ suc (leaves_of_profile pairs) ∷ [])

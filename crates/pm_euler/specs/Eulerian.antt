@@ -1,9 +1,7 @@
 -- Which map and which residue a list of choices gives: maps with vertices of given even degrees (Schaeffer 1997).
-use Rattle.std.specs.Prelude.{◌≡◌, ℕ, suc, ◌+◌, ◌/◌, List, [], ◌∷◌, ◌++◌, flat_map, slice_index, take, drop, length, Result, Ok, Err, ⊤}
+use Rattle.std.specs.Prelude.{◌≡◌, ℕ, suc, ◌+◌, List, [], ◌∷◌, ◌++◌, slice_index, take, drop, length, Result, Ok, Err, ⊤}
 use Rattle.pm_limits.specs.declared.TheConstants.{MAX_DEGREE}
 use Rattle.pm_lists.specs.Valid.{IsValidList}
-use Rattle.pm_lehmer.specs.Lehmer.{code_of, IsArrangementOf}
-use Rattle.pm_words.specs.Word.{IsGoodStart, turned}
 use Rattle.pm_trees.specs.Pairs.{IsProfile, edges_of}
 use Rattle.pm_map.specs.Rotation.{RotationSystem, structure_of}
 use Rattle.pm_map.specs.Classes.{IsEulerian}
@@ -12,23 +10,16 @@ use Rattle.pm_map.specs.declared.admitted.Degrees.TheVariants.{EvenUpTo}
 use Rattle.pm_map.specs.declared.class_refusal.ClassRefusal.{ClassRefusal}
 use Rattle.pm_map.specs.declared.class_refusal.ClassRefusal.TheVariants.{Memory, Empty, TooMany, Vertex, Face, Loop, Double}
 use Rattle.pm_euler.specs.Bounds.{eulerian_choices}
-use Rattle.pm_euler.specs.Objects.{halves_of, nodes_of_profile, letters_of, objects_of}
+use Rattle.pm_objects.specs.Codes.{codes_by_range}
+use Rattle.pm_objects.specs.Preorder.{ArePreordered}
+use Rattle.pm_euler.specs.Objects.{halves_of, nodes_of_profile, ranges_of}
 use Rattle.pm_euler.specs.PlanePlanted.{IsPlantedPlane}
 use Rattle.pm_euler.specs.PlantedAnew.{IsPlantedAnew}
 use Rattle.pm_euler.specs.Closed.{IsCanonicalClosure}
 
 -- for each degree the arrangement code of its objects, as they come, and then that of the leaf objects
 abbrev pub codes_by_degree : List (ℕ × ℕ) → List ℕ → List ℕ
-codes_by_degree pairs objects =
-    flat_map (λ (p : ℕ × ℕ). code_of (objects_of (halves_of pairs) (p.0 / 2) objects)) pairs
-    ++ code_of (objects_of (halves_of pairs) 0 objects)
-
--- The objects in preorder: the arrangement with this code, read cyclically from the one good start of its word.
-pub record ArePreordered (halves code : List ℕ) (start : ℕ) (objects : List ℕ) : Type 0 where
-  pub arrangement : List ℕ
-  pub is_arranged : IsArrangementOf code arrangement
-  pub is_start : IsGoodStart 1 (letters_of halves arrangement) start
-  pub are_turned : objects ≡ turned start arrangement
+codes_by_degree pairs objects = codes_by_range (ranges_of pairs) objects
 
 -- The first choices are the code of an arrangement of the objects, which read from its good start is the preorder of a
 -- plane tree. The next ones are the patterns of the node objects. The last says at which free leaf the blossoming tree is
@@ -37,7 +28,7 @@ pub record SamplesEulerian (pairs : List (ℕ × ℕ)) (choices : List ℕ) (map
   pub valid : IsValidList choices (eulerian_choices pairs)
   pub start : ℕ
   pub objects : List ℕ
-  pub are_preordered : ArePreordered (halves_of pairs) (take (suc (edges_of pairs)) choices) start objects
+  pub are_preordered : ArePreordered 1 (halves_of pairs) (take (suc (edges_of pairs)) choices) start objects
   pub word : List ℕ
   pub is_planted : IsPlantedPlane (halves_of pairs) (take (nodes_of_profile pairs) (drop (suc (edges_of pairs)) choices)) objects word
   pub planted_anew : List ℕ

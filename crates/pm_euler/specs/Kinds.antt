@@ -2,7 +2,7 @@
 use Rattle.std.specs.Prelude.{◌≡◌, ℕ, ◌<◌, ◌==◌, List, [], ◌∷◌, ◌++◌, length, map, slice_index_or, if◌then◌else◌}
 use Rattle.pm_trees.specs.declared.letters.TheConstants.{LEAF, OPEN, CLOSE}
 use Rattle.pm_trees.specs.BudPattern.{HasRank}
-use Rattle.pm_euler.specs.Objects.{half_of}
+use Rattle.pm_objects.specs.Objects.{arity_of}
 use Rattle.pm_euler.specs.Planted.{filled}
 
 -- Plane trees side by side, with the kinds of their objects in preorder and the text of each: a leaf is of the kind (0, 0),
@@ -20,7 +20,7 @@ IsWordOfKinds kinds word = AreSidesOfKinds kinds ((OPEN ∷ word ++ CLOSE ∷ []
 
 -- the kind of an object, where the half degrees and the ranks are those of the node objects
 abbrev pub kind_of : List ℕ → List ℕ → ℕ → ℕ × ℕ
-kind_of halves ranks object = (half_of halves object, if half_of halves object == 0 then 0 else slice_index_or ranks object 0)
+kind_of halves ranks object = (arity_of halves object, if arity_of halves object == 0 then 0 else slice_index_or ranks object 0)
 
 -- the kinds of the objects
 abbrev pub kinds_of : List ℕ → List ℕ → List ℕ → List (ℕ × ℕ)

@@ -4,7 +4,6 @@ pub mod Eulerian
 pub mod Folded
 pub mod Kinds
 pub mod Objects
-pub mod ObjectsRead
 pub mod PlanePlanted
 pub mod Planted
 pub mod PlantedAnew

@@ -2,7 +2,7 @@
 use Rattle.std.specs.Prelude.{◌≡◌, ℕ, ◌<◌, List, [], ◌∷◌, ◌++◌, length, slice_index_or}
 use Rattle.pm_trees.specs.declared.letters.TheConstants.{LEAF, OPEN, CLOSE}
 use Rattle.pm_trees.specs.BudPattern.{HasRank}
-use Rattle.pm_euler.specs.Objects.{half_of}
+use Rattle.pm_objects.specs.Objects.{arity_of}
 use Rattle.pm_euler.specs.Planted.{filled}
 
 -- Plane trees side by side, whose objects in preorder are these, with the text of each: an object of half degree 0 is a
@@ -10,11 +10,11 @@ use Rattle.pm_euler.specs.Planted.{filled}
 -- with as many trees in its slots, one after another.
 pub data AreSides (halves ranks : List ℕ) : List ℕ → List (List ℕ) → Type 0 where
   none : AreSides halves ranks [] []
-  leaf : (object : ℕ) (later : List ℕ) (texts : List (List ℕ)) → half_of halves object ≡ 0
+  leaf : (object : ℕ) (later : List ℕ) (texts : List (List ℕ)) → arity_of halves object ≡ 0
       → AreSides halves ranks later texts → AreSides halves ranks (object ∷ later) ((LEAF ∷ []) ∷ texts)
-  node : (object : ℕ) (under later pattern : List ℕ) (sides texts : List (List ℕ)) → 0 < half_of halves object
-      → HasRank (half_of halves object) pattern (slice_index_or ranks object 0)
-      → AreSides halves ranks under sides → length sides ≡ half_of halves object → AreSides halves ranks later texts
+  node : (object : ℕ) (under later pattern : List ℕ) (sides texts : List (List ℕ)) → 0 < arity_of halves object
+      → HasRank (arity_of halves object) pattern (slice_index_or ranks object 0)
+      → AreSides halves ranks under sides → length sides ≡ arity_of halves object → AreSides halves ranks later texts
       → AreSides halves ranks (object ∷ under ++ later) ((OPEN ∷ filled pattern sides ++ CLOSE ∷ []) ∷ texts)
 
 -- the word of the blossoming tree whose objects in preorder are these, planted above the first: the text of the one tree

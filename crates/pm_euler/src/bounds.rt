@@ -1,6 +1,7 @@
 //! The bounds of growths, of arrangement codes, and of the choices and the residues of Eulerian maps.
 ghost use Rattle.std.specs.Prelude.{◌≡◌, ◌∷◌, ◌++◌, IfOk, OnOk};
-ghost use Rattle.pm_euler.specs.Bounds.{growth_bounds, code_bounds, eulerian_choices, eulerian_residues};
+ghost use Rattle.pm_objects.specs.Codes.{code_bounds};
+ghost use Rattle.pm_euler.specs.Bounds.{growth_bounds, eulerian_choices, eulerian_residues};
 
 use crate::objects::{edges_of, nodes_of};
 use pm_trees::{Profile, pattern_count};

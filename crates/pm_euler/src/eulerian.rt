@@ -6,16 +6,16 @@ ghost use Rattle.pm_map.specs.Classes.{IsEulerian};
 ghost use Rattle.pm_map.specs.Rotation.{structure_of};
 ghost use Rattle.pm_trees.specs.Pairs.{IsProfile, edges_of};
 ghost use Rattle.pm_euler.specs.Bounds.{eulerian_choices, eulerian_residues};
-ghost use Rattle.pm_euler.specs.Eulerian.{ArePreordered, IsEulerianAnswer, SamplesEulerian, codes_by_degree};
+ghost use Rattle.pm_objects.specs.Preorder.{ArePreordered};
+ghost use Rattle.pm_euler.specs.Eulerian.{IsEulerianAnswer, SamplesEulerian, codes_by_degree};
 ghost use Rattle.pm_euler.specs.Objects.{halves_of};
 
 use crate::anew::plant_anew;
 use crate::bounds::{eulerian_choice_limits, eulerian_residue_limits};
 use crate::closing::canonical_closure;
-use crate::eulerian_unsampling::{objects_of_residue, turned_back};
 use crate::map_profile::profile_of_map;
-use crate::object_order::ranks_by_object;
-use crate::objects::{codes_by_degree, edges_of, halves_of, letters_of, nodes_of};
+use crate::object_order::{halves_in, ranks_by_object};
+use crate::objects::{edges_of, halves_of, nodes_of, ranges_of};
 use crate::plane_planting::plant_plane;
 use crate::plane_reading::kinds_of_tree;
 use crate::unplanting::unplant;
@@ -24,8 +24,9 @@ use pm_lehmer::{arrange, code};
 use pm_limits::MAX_EDGES;
 use pm_lists::{Bounds, NumList};
 use pm_map::{ClassRefusal, RootedMap};
+use pm_objects::{codes_by_range, objects_of_codes, starts_of, turned_back};
 use pm_trees::Profile;
-use pm_words::{good_starts, rotate};
+use pm_words::rotate;
 use std::alloc::{AllocError, Global};
 
 /// The maps whose vertices have the even degrees of a profile, as many of each as it says: plane maps (Schaeffer 1997). With
@@ -93,10 +94,12 @@ impl MapClass for Eulerian {
     ) -> Result<NumList, AllocError> {
         // Its contract says that the map is a rooted one; so its tree has as many nodes of each degree as it has vertices.
         let _edges = map.edges();
-        let pairs = size.pairs();
         let unplanted = unplant(alloc, map, residue[residue.len() - 1] as u32)?;
         let kinds = kinds_of_tree(alloc, &unplanted.tree)?;
-        let objects = objects_of_residue(alloc, pairs, &kinds, residue)?;
+        let ranges = ranges_of(alloc, size)?;
+        let halves = halves_in(alloc, &kinds)?;
+        let codes = &residue[1..residue.len() - 1];
+        let objects = objects_of_codes(alloc, &ranges, &halves, codes)?;
         let ranks = ranks_by_object(alloc, nodes_of(size) as usize, &kinds, &objects)?;
         let arrangement = turned_back(alloc, &objects, residue[0] as u32)?;
         let mut choices = code(alloc, &arrangement)?;
@@ -119,11 +122,10 @@ struct Preorder {
 fn preorder_of(alloc: Global, halves: &[u32], code: &[u64]) -> Result<Preorder, AllocError>
     requires profile { (pairs : List (ℕ × ℕ)) × IsProfile pairs × (halves.now ≡ halves_of pairs) × (length code.now ≡ suc (edges_of pairs)) }
     requires is_code { IsArrangementCode code.now }
-    ensures { IfOk result (λ preorder. ArePreordered halves.now code.now preorder.start preorder.objects.items) }
+    ensures { IfOk result (λ preorder. ArePreordered 1 halves.now code.now preorder.start preorder.objects.items) }
 {
     let arrangement = arrange(alloc, code)?;
-    let letters = letters_of(alloc, halves, &arrangement)?;
-    let starts = good_starts(alloc, &letters, 1)?;
+    let starts = starts_of(alloc, halves, &arrangement, 1)?;
     let start = starts[0];
     let objects = rotate(alloc, &arrangement, start)?;
     Ok(Preorder { start, objects })
@@ -141,7 +143,8 @@ fn residue_of(
     requires few { length preorder.now.objects.items < 2 ^ 32 }
     ensures { IfOk result (λ residue. residue ≡ preorder.now.start ∷ (codes_by_degree profile.now preorder.now.objects.items ++ old_plant ∷ [])) }
 {
-    let codes = codes_by_degree(alloc, profile, halves, &preorder.objects)?;
+    let ranges = ranges_of(alloc, profile)?;
+    let codes = codes_by_range(alloc, &ranges, halves, &preorder.objects)?;
     let mut residue = Vec::new(alloc);
     residue.push(u64::from(preorder.start))?;
     residue.extend_from_slice(&codes)?;

@@ -5,7 +5,6 @@ mod anew;
 mod bounds;
 mod closing;
 mod eulerian;
-mod eulerian_unsampling;
 mod map_profile;
 mod object_order;
 mod objects;

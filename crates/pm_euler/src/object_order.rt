@@ -1,26 +1,8 @@
-//! The objects of a tree in preorder, by the kinds that are read of it.
-ghost use Rattle.std.specs.Prelude.{◌≡◌, ℕ, ◌<◌, ◌==◌, List, length, slice_index, slice_index_or, count_by, take, IfOk};
+//! What the kinds of the objects of a tree tell of them.
+ghost use Rattle.std.specs.Prelude.{◌≡◌, ℕ, ◌<◌, length, map, slice_index, slice_index_or, IfOk};
 ghost use Rattle.pm_perm.specs.Permutation.{IsPermutationList};
 
 use std::alloc::{AllocError, Global};
-
-/// Puts the objects of the list, which are of this half degree, at the places of its kinds.
-pub(crate) fn put_objects(kinds: &[(u32, u64)], half: u32, list: &[u32], objects: &mut [u32])
-    requires as_long { length objects.old ≡ length kinds.now }
-    requires many { length list.now ≡ count_by (λ (kind : ℕ × ℕ). kind.0 == half) kinds.now }
-    ensures as_long { length objects.new ≡ length kinds.now }
-    ensures here { (place : ℕ) → place < length kinds.now → (slice_index_or kinds.now place (0, 0)).0 ≡ half → slice_index objects.new place ≡ slice_index list.now (count_by (λ (kind : ℕ × ℕ). kind.0 == half) (take place kinds.now)) }
-    ensures others { (place : ℕ) → place < length kinds.now → ((slice_index_or kinds.now place (0, 0)).0 ≡ half → ⊥) → slice_index objects.new place ≡ slice_index objects.old place }
-{
-    let mut next = 0;
-    'kinds: for (place, kind) in kinds.iter().enumerate() {
-        if kind.0 != half {
-            continue 'kinds;
-        }
-        objects[place] = list[next];
-        next += 1;
-    }
-}
 
 /// The ranks by object, where the objects in preorder have these kinds.
 pub(crate) fn ranks_by_object(
@@ -43,4 +25,11 @@ pub(crate) fn ranks_by_object(
         ranks[object] = kinds[place].1;
     }
     Ok(ranks)
+}
+
+/// The half degrees of the objects with these kinds.
+pub(crate) fn halves_in(alloc: Global, kinds: &[(u32, u64)]) -> Result<Vec<u32>, AllocError>
+    ensures { IfOk result (λ halves. halves.items ≡ map (λ (kind : ℕ × ℕ). kind.0) kinds.now) }
+{
+    kinds.iter().map(|kind| kind.0).collect(alloc)
 }

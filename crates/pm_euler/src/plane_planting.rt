@@ -4,7 +4,7 @@ ghost use Rattle.pm_limits.specs.declared.TheConstants.{MAX_EDGES};
 ghost use Rattle.pm_trees.specs.Binomial.{choose};
 ghost use Rattle.pm_trees.specs.BudPattern.{HasRank, IsHalfDegree};
 ghost use Rattle.pm_words.specs.Word.{IsGood};
-ghost use Rattle.pm_euler.specs.Objects.{letters_of};
+ghost use Rattle.pm_objects.specs.Objects.{letters_of};
 ghost use Rattle.pm_euler.specs.PlanePlanted.{IsPlantedPlane};
 
 use pm_limits::MAX_DEGREE;

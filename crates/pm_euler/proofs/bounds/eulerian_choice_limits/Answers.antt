@@ -1,6 +1,6 @@
 use Rattle.std.proofs.Common.{List, ℕ, suc, ◌++◌, replicate, ap, ◌∙◌}
 use Rattle.pm_trees.specs.Pairs.{edges_of, pair_at}
-use Rattle.pm_euler.specs.Bounds.{code_bounds}
+use Rattle.pm_objects.specs.Codes.{code_bounds}
 use Rattle.pm_euler.proofs.EulerianBounds.{patterns_more}
 use Rattle.pm_euler.proofs.bounds.eulerian_choice_limits.Goals as goal
 

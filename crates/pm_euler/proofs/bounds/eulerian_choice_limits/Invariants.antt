@@ -1,7 +1,7 @@
 use Rattle.std.proofs.Common.{◌≡◌, ◌++◌, ◌*◌, ◌-◌, suc, take, map}
 use Rattle.pm_trees.specs.Binomial.{choose}
 use Rattle.pm_trees.specs.Pairs.{edges_of}
-use Rattle.pm_euler.specs.Bounds.{code_bounds}
+use Rattle.pm_objects.specs.Codes.{code_bounds}
 use Rattle.pm_euler.specs.Objects.{halves_of}
 use Rattle.pm_euler.proofs.bounds.eulerian_choice_limits.Given as goal
 

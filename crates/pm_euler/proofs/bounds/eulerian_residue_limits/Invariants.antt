@@ -1,7 +1,7 @@
 use Rattle.std.proofs.Common.{◌≡◌, ℕ, ◌∷◌, suc, take}
 use Rattle.std.specs.Prelude.{flat_map}
 use Rattle.pm_trees.specs.Pairs.{edges_of}
-use Rattle.pm_euler.specs.Bounds.{code_bounds}
+use Rattle.pm_objects.specs.Codes.{code_bounds}
 use Rattle.pm_euler.proofs.bounds.eulerian_residue_limits.Given as goal
 
 abbrev pub invariant-loop-pair : goal.invariant-loop-pair

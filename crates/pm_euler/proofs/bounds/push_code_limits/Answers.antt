@@ -1,5 +1,5 @@
 use Rattle.std.proofs.Common.{◌≡◌, ◌+◌, ◌-◌, ◌<◌, ℕ, suc, List, [], ◌∷◌, ◌++◌, ap, sym, ◌∙◌, append_assoc, arith}
-use Rattle.pm_euler.specs.Bounds.{code_bounds}
+use Rattle.pm_objects.specs.Codes.{code_bounds}
 use Rattle.pm_euler.proofs.bounds.push_code_limits.Goals as goal
 
 -- one bound more

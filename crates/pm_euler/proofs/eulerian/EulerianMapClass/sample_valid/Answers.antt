@@ -3,7 +3,8 @@ use Rattle.std.specs.Prelude.{slice_index}
 use Rattle.pm_lehmer.specs.Lehmer.{IsArrangementCode}
 use Rattle.pm_trees.specs.Pairs.{edges_of}
 use Rattle.pm_words.specs.Word.{IsGood}
-use Rattle.pm_euler.specs.Objects.{halves_of, nodes_of_profile, letters_of}
+use Rattle.pm_objects.specs.Objects.{letters_of}
+use Rattle.pm_euler.specs.Objects.{halves_of, nodes_of_profile}
 use Rattle.pm_euler.specs.PlantedAnew.{IsPlantedAnew}
 use Rattle.pm_euler.proofs.EulerianBounds.{arrangement_long, arrangement_is_valid, length-eulerian_choices}
 use Rattle.pm_euler.proofs.EulerianChoices.{ap-preorder, preorder_of_choices, ranks_of_choices, free_of_choices, planted_of_choices}

@@ -1,6 +1,6 @@
 use Rattle.std.proofs.Common.{ℕ, ◌+◌, ◌∷◌, subst, sym, ap, ◌∙◌}
 use Rattle.pm_lists.specs.Valid.{AreBounds}
-use Rattle.pm_euler.specs.Bounds.{code_bounds}
+use Rattle.pm_objects.specs.Codes.{code_bounds}
 use Rattle.pm_euler.proofs.BoundLemmas.{quartic_residues_are}
 use Rattle.pm_euler.proofs.quartic.QuarticMapClass.residue_bounds.Goals as goal
 

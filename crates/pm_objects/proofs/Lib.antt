@@ -1,0 +1,12 @@
+pub mod CodeBounds
+pub mod ObjectBlocks
+pub mod ObjectCounts
+pub mod ObjectPlaces
+pub mod ObjectSums
+pub mod ObjectsFound
+pub mod ObjectsPut
+pub mod OneOrder
+pub mod Preorders
+pub mod RangeCodes
+pub mod SameCounts
+pub mod Sorting

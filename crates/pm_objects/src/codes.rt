@@ -1,0 +1,65 @@
+//! The codes of the objects, range by range.
+ghost use Rattle.std.specs.Prelude.{◌≡◌, ◌^◌, ◌<◌, length, IfOk};
+ghost use Rattle.pm_lehmer.specs.Lehmer.{code_of};
+ghost use Rattle.pm_objects.specs.Codes.{codes_by_range};
+ghost use Rattle.pm_objects.specs.Objects.{arities_of, arity_of, objects_of};
+
+use crate::ranges::arity_of;
+use pm_lehmer::code;
+use std::alloc::{AllocError, Global};
+
+/// For each range the arrangement code of its objects, as they come, and then that of the leaf objects. The node objects
+/// have these arities.
+///
+/// # Errors
+///
+/// `AllocError` where memory runs out.
+pub fn codes_by_range(
+    alloc: Global,
+    ranges: &[(u32, u32)],
+    arities: &[u32],
+    objects: &[u32],
+) -> Result<Vec<u64>, AllocError>
+    requires arities { arities.now ≡ arities_of ranges.now }
+    requires few { length objects.now < 2 ^ 32 }
+    ensures { IfOk result (λ codes. codes.items ≡ codes_by_range ranges.now objects.now) }
+{
+    let mut codes = Vec::new(alloc);
+    for range in ranges {
+        let node_code = code_of_arity(alloc, arities, range.0, objects)?;
+        codes.extend_from_slice(&node_code)?;
+    }
+    let leaf_code = code_of_arity(alloc, arities, 0, objects)?;
+    codes.extend_from_slice(&leaf_code)?;
+    Ok(codes)
+}
+
+/// The code of the objects of this arity, as they come.
+fn code_of_arity(
+    alloc: Global,
+    arities: &[u32],
+    arity: u32,
+    objects: &[u32],
+) -> Result<Vec<u64>, AllocError>
+    requires { length objects.now < 2 ^ 32 }
+    ensures { IfOk result (λ codes. codes.items ≡ code_of (objects_of arities.now arity objects.now)) }
+{
+    let kept = objects_of(alloc, arities, arity, objects)?;
+    code(alloc, &kept)
+}
+
+/// The objects of this arity, as they come.
+fn objects_of(
+    alloc: Global,
+    arities: &[u32],
+    arity: u32,
+    objects: &[u32],
+) -> Result<Vec<u32>, AllocError>
+    ensures { IfOk result (λ kept. kept.items ≡ objects_of arities.now arity objects.now) }
+{
+    objects
+        .iter()
+        .copied()
+        .filter(|object| arity_of(arities, *object) == arity)
+        .collect(alloc)
+}
