@@ -10,7 +10,7 @@ use Rattle.pm_euler.specs.Folded.{front_of, behind, fold_letter, folded, AreKind
 use Rattle.pm_euler.specs.Folded.AreKindsAlong.{ended, a_leaf, a_node, no_object}
 use Rattle.pm_euler.specs.Kinds.{AreSidesOfKinds, IsWordOfKinds}
 use Rattle.pm_euler.specs.Kinds.AreSidesOfKinds.{none, leaf, node}
-use Rattle.pm_euler.specs.Planted.{filled}
+use Rattle.pm_euler.specs.PlanePlanted.{filled}
 use Rattle.pm_euler.proofs.FilledRows.{filled_bud, filled_slot}
 use Rattle.pm_euler.proofs.SideTexts.{same_push}
 

@@ -13,7 +13,7 @@ use Rattle.pm_words.specs.Word.{IsGood}
 use Rattle.pm_words.specs.Plane.{Trees, none as no_trees, tree, how_many, letter_of, words_of}
 use Rattle.pm_words.proofs.PlaneWords.{IsGood-word_of}
 use Rattle.pm_objects.specs.Objects.{arity_of, letters_of}
-use Rattle.pm_euler.specs.Planted.{filled}
+use Rattle.pm_euler.specs.PlanePlanted.{filled}
 use Rattle.pm_euler.specs.PlanePlanted.{AreSides}
 use Rattle.pm_euler.specs.PlanePlanted.AreSides.{none as no_sides, leaf as leaf_side, node as node_side}
 use Rattle.pm_euler.specs.Kinds.{AreSidesOfKinds, IsWordOfKinds, kind_of, kinds_of}

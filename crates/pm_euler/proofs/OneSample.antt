@@ -22,10 +22,9 @@ use Rattle.pm_euler.specs.PlantedAnew.{IsFreeLeaf, IsPlantedAnew, first, second}
 use Rattle.pm_euler.specs.Closed.{IsCanonicalClosure}
 use Rattle.pm_euler.specs.Quartic.{IsQuarticSize, SamplesQuartic}
 use Rattle.pm_class.specs.Sampling.{HasOneSample}
+use Rattle.pm_euler.proofs.QuarticTrees.{planted_blossoming, planted_unique}
 use Rattle.pm_euler.proofs.BoundLemmas.{length-quartic_choices, ranks_long}
 use Rattle.pm_euler.proofs.FreeLeaves.{anew_balanced}
-use Rattle.pm_euler.proofs.PlantingTrees.{planted_blossoming}
-use Rattle.pm_euler.proofs.PlantingWords.{planted_unique}
 use Rattle.pm_euler.proofs.ClosedMaps.{one_canonical_closure}
 
 -- the free leaf of a number is one

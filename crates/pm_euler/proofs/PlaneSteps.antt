@@ -12,7 +12,7 @@ use Rattle.pm_trees.proofs.Ranking.{IsTwo}
 use Rattle.pm_trees.proofs.Tally.{tally, tally-nil, tally_yes, tally_no, tally-append}
 use Rattle.pm_words.specs.Word.{IsGood}
 use Rattle.pm_objects.specs.Objects.{arity_of, letters_of}
-use Rattle.pm_euler.specs.Planted.{filled}
+use Rattle.pm_euler.specs.PlanePlanted.{filled}
 use Rattle.pm_euler.specs.PlanePlanted.{AreSides, IsPlantedPlane}
 use Rattle.pm_euler.specs.PlanePlanted.AreSides.{none, leaf, node}
 use Rattle.pm_euler.proofs.SideTexts.{same_push}

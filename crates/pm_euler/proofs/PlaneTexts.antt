@@ -3,7 +3,7 @@ use Rattle.std.proofs.Common.{◌≡◌, ℕ, List, [], ◌∷◌, ◌++◌, map
 use Rattle.std.proofs.lemmas.List.{map-append}
 use Rattle.pm_trees.specs.declared.letters.TheConstants.{LEAF, OPEN, CLOSE}
 use Rattle.pm_objects.specs.Objects.{arity_of}
-use Rattle.pm_euler.specs.Planted.{filled}
+use Rattle.pm_euler.specs.PlanePlanted.{filled}
 use Rattle.pm_euler.specs.PlanePlanted.{AreSides, IsPlantedPlane}
 use Rattle.pm_euler.specs.PlanePlanted.AreSides.{none, leaf, node}
 use Rattle.pm_euler.proofs.SideTexts.{same_push}

@@ -14,7 +14,7 @@ use Rattle.pm_words.proofs.PlaneWords.{word_of-subtrees_of}
 use Rattle.pm_words.specs.PlaneCode.{children_of-letter_of}
 use Rattle.pm_objects.proofs.ObjectCounts.{letters_word}
 use Rattle.pm_objects.specs.Objects.{arity_of, letters_of}
-use Rattle.pm_euler.specs.Planted.{filled}
+use Rattle.pm_euler.specs.PlanePlanted.{filled}
 use Rattle.pm_euler.specs.PlanePlanted.{AreSides, IsPlantedPlane}
 use Rattle.pm_euler.specs.PlanePlanted.AreSides.{none as no_sides, leaf, node}
 use Rattle.pm_euler.proofs.SideTexts.{same_push}

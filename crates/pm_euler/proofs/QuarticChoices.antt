@@ -4,10 +4,6 @@ use Rattle.std.specs.Prelude.{slice_index}
 use Rattle.std.proofs.Math.ListN.{get_or-append}
 use Rattle.std.proofs.lemmas.Bool.{cases_lt}
 use Rattle.std.proofs.lemmas.List.{take_at, drop_at, drop_all, get_or-append_right}
-use Rattle.std.proofs.lemmas.List.Elements.{All-cons, All-append, All-nil}
-use Rattle.pm_trees.specs.declared.letters.TheConstants.{OPEN, CLOSE}
-use Rattle.pm_trees.specs.Binomial.{choose}
-use Rattle.pm_trees.proofs.Ranked.{patterns_ranked}
 use Rattle.pm_lists.specs.Valid.{IsValidList}
 use Rattle.pm_lehmer.specs.Lehmer.{code_of}
 use Rattle.pm_lehmer.proofs.Arranged.{IsArrangementOf-unique}
@@ -19,14 +15,12 @@ use Rattle.pm_remy.proofs.GrowthLaws.{growth_leaves}
 use Rattle.pm_remy.proofs.Reading.{same_tree}
 use Rattle.pm_map.specs.Rotation.{RotationSystem}
 use Rattle.pm_euler.specs.Bounds.{quartic_choices}
-use Rattle.pm_euler.specs.Planted.{IsSide, IsPlanted}
-use Rattle.pm_euler.specs.Planted.IsSide.{of_leaf, of_fork}
+use Rattle.pm_euler.specs.Planted.{IsPlanted}
 use Rattle.pm_euler.specs.PlantedAnew.{IsPlantedAnew}
 use Rattle.pm_euler.specs.Closed.{IsCanonicalClosure}
 use Rattle.pm_euler.specs.Quartic.{SamplesQuartic}
+use Rattle.pm_euler.proofs.QuarticTrees.{planted_ranks, planted_reads_once}
 use Rattle.pm_euler.proofs.BoundLemmas.{length-quartic_choices, choice_of_growth, choice_of_rank, choice_of_free, growth_is_valid}
-use Rattle.pm_euler.proofs.SameSides.{planted_reads_once}
-use Rattle.pm_euler.proofs.SideTexts.{side_leaves}
 
 -- the choices are a growth of n, n ranks and the number of a free leaf
 pub record AreParts (n : ℕ) (choices growth ranks : List ℕ) (free : ℕ) : Type 0 where
@@ -86,14 +80,6 @@ parts_are_valid n growth ranks free valid g r few low = record {
       ];
 }
 
--- the ranks of a side are those of patterns
-pub side_ranks : (tree : Tree) (ranks text : List ℕ) → IsSide tree ranks text → All (λ rank. rank < 3) ranks
-unfolding choose
-side_ranks _ _ _ (of_leaf label) = All-nil (λ (rank : ℕ). rank < 3)
-side_ranks _ _ _ (of_fork left right rank left_ranks right_ranks pattern left_text right_text p h k) =
-    All-cons (λ (x : ℕ). x < 3) rank (left_ranks ++ right_ranks) ((patterns_ranked 2 (omega arith)).below pattern rank p)
-    (All-append (λ (x : ℕ). x < 3) left_ranks right_ranks (side_ranks left left_ranks left_text h) (side_ranks right right_ranks right_text k))
-
 -- A sample from its parts: the choices that grow the tree, the ranks with which it is planted, and the number of the free
 -- leaf.
 pub sample_from_parts : (n : ℕ) (tree : Tree) (growth ranks word turned : List ℕ) (free old_plant : ℕ) (map : RotationSystem) → IsGrowth growth tree → length ranks ≡ n → IsPlanted tree ranks word → free < 2
@@ -101,13 +87,13 @@ pub sample_from_parts : (n : ℕ) (tree : Tree) (growth ranks word turned : List
 sample_from_parts n tree growth ranks word turned free old_plant map grows long planted few anew closed =
     let a = growth_leaves growth grows.valid in
     let b = ap leaves grows.grows in
-    let c = side_leaves tree ranks (OPEN ∷ word ++ CLOSE ∷ []) planted in
+    let c = planted.forks in
     let g : length growth ≡ n = omega (arith, a, b, c, long) in
     let parts = parts_of n growth ranks free g long in
     let choices : List ℕ = growth ++ (ranks ++ free ∷ []) in
     let tree_is : grown (take n choices) ≡ tree = ap grown parts.growth_is ∙ grows.grows in
     record {
-      valid = parts_are_valid n growth ranks free grows.valid g long (side_ranks tree ranks (OPEN ∷ word ++ CLOSE ∷ []) planted) few;
+      valid = parts_are_valid n growth ranks free grows.valid g long (planted_ranks tree ranks word planted) few;
       word = word;
       is_planted = subst (λ (rs : List ℕ). IsPlanted (grown (take n choices)) rs word) (sym parts.ranks_are) (subst (λ (t : Tree). IsPlanted t ranks word) (sym tree_is) planted);
       turned = turned;

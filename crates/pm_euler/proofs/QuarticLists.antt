@@ -36,14 +36,11 @@ use Rattle.pm_euler.specs.Quartic.{IsQuarticSize, SamplesQuartic}
 use Rattle.pm_euler.specs.Unplanted.{IsUnplanted}
 use Rattle.pm_class.specs.Unsampling.{HasOneList}
 use Rattle.pm_objects.proofs.CodeBounds.{length-code_bounds, code_bound}
+use Rattle.pm_euler.proofs.QuarticTrees.{planted_blossoming, planted_length, planted_leaves, planted_from_word, planted_relabelled}
 use Rattle.pm_euler.proofs.BoundLemmas.{length-quartic_choices, ranks_long}
 use Rattle.pm_euler.proofs.OneUnplanting.{anew_is_once}
-use Rattle.pm_euler.proofs.PlantedReading.{planted_from_word}
-use Rattle.pm_euler.proofs.PlantingTrees.{planted_blossoming, planted_length, planted_leaves}
 use Rattle.pm_euler.proofs.QuarticChoices.{sample_from_parts, same_choices}
 use Rattle.pm_euler.proofs.QuarticMaps.{four_each}
-use Rattle.pm_euler.proofs.SameSides.{side_relabelled}
-use Rattle.pm_euler.proofs.SideTexts.{side_leaves}
 use Rattle.pm_euler.proofs.SomeUnplanting.{HasUnplanted, anew_exists, canonical_closes, unplanted_degrees, unplanted_edges}
 
 -- no vertex of a quartic map has another degree
@@ -116,7 +113,7 @@ pub sample_from_labels : (n : ℕ) (shaped labelled : Tree) (growth ranks labels
 sample_from_labels n shaped labelled growth ranks labels code word turned free old_plant map planted long shapes labels_are arranged grows few anew closed =
     let code_is : code_of (labels_of labelled) ≡ code = ap code_of labels_are ∙ arranged.has_code in
     subst (λ (xs : List ℕ). SamplesQuartic n (growth ++ (ranks ++ free ∷ [])) map (old_plant ∷ xs)) code_is
-    (sample_from_parts n labelled growth ranks word turned free old_plant map grows long (side_relabelled shaped labelled ranks _ planted (sym shapes)) few anew closed)
+    (sample_from_parts n labelled growth ranks word turned free old_plant map grows long (planted_relabelled shaped labelled ranks word planted (sym shapes)) few anew closed)
 
 -- the choices of a tree with the shape of the planted one and the labels with the code
 record HasLabelled (shaped : Tree) (n : ℕ) (code : List ℕ) : Type 0 where
@@ -152,7 +149,7 @@ pair_is_sampled n map old_plant code rooted canonical quartic valid =
     let found : HasUnplanted map old_plant = anew_exists map old_plant rooted quartic.some (quartic_admitted (structure_of map) n quartic)
     (λ opening is. let l = opening_leaves map n opening rooted quartic is in omega (arith, l, low)) in
     let read = unplanted_reads map n old_plant found.word found.free rooted quartic found.is in
-    let many = side_leaves read.tree read.ranks _ read.is_planted in
+    let many = read.is_planted.forks in
     let labelled = labelled_exists read.tree n code (omega (arith, many, read.long)) long (tail_is_code n old_plant code valid) in (
       labelled.growth ++ (read.ranks ++ found.free ∷ []),
       sample_from_labels n read.tree labelled.labelled labelled.growth read.ranks labelled.labels code found.word found.is.turned found.free old_plant map read.is_planted read.long

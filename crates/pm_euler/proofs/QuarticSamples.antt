@@ -19,9 +19,8 @@ use Rattle.pm_euler.specs.Quartic.{IsQuarticSize, SamplesQuartic}
 use Rattle.pm_class.specs.declared.sample.Sample.{Sample}
 use Rattle.pm_class.specs.Sampling.{IsSampled, EachListIsSampled}
 use Rattle.pm_lehmer.proofs.Arranged.{length-code_of}
+use Rattle.pm_euler.proofs.QuarticTrees.{planted_blossoming, planted_no_other, planted_leaves, planted_length, planted_exists}
 use Rattle.pm_euler.proofs.BoundLemmas.{length-quartic_choices, growth_is_valid, ranks_are_valid, ranks_long, free_is_valid, residue_is_valid}
-use Rattle.pm_euler.proofs.PlantingTrees.{planted_blossoming, planted_no_other, planted_leaves, planted_length}
-use Rattle.pm_euler.proofs.PlantingWords.{planted_exists}
 use Rattle.pm_euler.proofs.ClosedAnew.{HasClosure, closed_anew}
 use Rattle.pm_euler.proofs.ClosedMaps.{canonical_closure_is_rooted, quartic_closure}
 use Rattle.pm_euler.proofs.OneSample.{anew_alike, anew_balances, anew_blossoms, old_plant_few}

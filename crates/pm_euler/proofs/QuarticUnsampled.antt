@@ -22,10 +22,9 @@ use Rattle.pm_euler.specs.ShapeRead.{IsPlantedOf}
 use Rattle.pm_euler.specs.Unplanted.{IsUnplanted}
 use Rattle.pm_class.specs.Unsampling.{IsUnsampled}
 use Rattle.pm_objects.proofs.CodeBounds.{length-code_bounds}
-use Rattle.pm_euler.proofs.PlantingTrees.{planted_length}
+use Rattle.pm_euler.proofs.QuarticTrees.{planted_length}
 use Rattle.pm_euler.proofs.QuarticLists.{opening_leaves, unplanted_size, unplanted_reads, tail_is_code, sample_from_labels}
 use Rattle.pm_euler.proofs.QuarticMaps.{quartic_size}
-use Rattle.pm_euler.proofs.SideTexts.{side_leaves}
 use Rattle.pm_euler.proofs.SomeUnplanting.{unplanted_closes}
 
 -- a valid residue: the number of the old plant, and a code
@@ -83,7 +82,7 @@ pub record IsShapeOfSize (shape : List Bool) (n : ℕ) : Type 0 where
 
 pub shape_of_size : (word : List ℕ) (shape : List Bool) (ranks : List ℕ) (n : ℕ) → IsPlantedOf word shape ranks → length ranks ≡ n → IsShapeOfSize shape n
 shape_of_size word shape ranks n read long =
-    let many = side_leaves read.tree ranks _ read.is_planted in
+    let many = read.is_planted.forks in
     let forks = forks-shape read.tree in
     let ends = leaves-shape read.tree in
     subst (λ (bs : List Bool). IsShapeOfSize bs n) (sym read.shape_is)

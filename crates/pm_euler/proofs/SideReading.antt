@@ -12,7 +12,7 @@ use Rattle.pm_trees.proofs.Ranked.{patterns_ranked}
 use Rattle.pm_trees.proofs.Tally.{tally, tally_is, tally_yes, tally_no}
 use Rattle.pm_euler.specs.Kinds.{AreSidesOfKinds, IsWordOfKinds}
 use Rattle.pm_euler.specs.Kinds.AreSidesOfKinds.{none, leaf, node}
-use Rattle.pm_euler.specs.Planted.{filled}
+use Rattle.pm_euler.specs.PlanePlanted.{filled}
 use Rattle.pm_euler.proofs.FilledRows.{AreRows, filled_bud, filled_slot, node_row}
 use Rattle.pm_euler.proofs.FilledRows.AreRows.{no_rows, one_row}
 use Rattle.pm_euler.proofs.RootRows.{root_side}

@@ -17,7 +17,7 @@ use Rattle.pm_trees.proofs.Tally.{tally, tally_is, tally-nil, tally_yes, tally_n
 use Rattle.pm_trees.proofs.Weights.{value, value_is, inner, inner_other, inner_of_bracket, own_bracket}
 use Rattle.pm_euler.specs.Kinds.{AreSidesOfKinds, IsWordOfKinds}
 use Rattle.pm_euler.specs.Kinds.AreSidesOfKinds.{none, leaf, node}
-use Rattle.pm_euler.specs.Planted.{filled}
+use Rattle.pm_euler.specs.PlanePlanted.{filled}
 use Rattle.pm_euler.proofs.SideReading.{one_reading}
 use Rattle.pm_euler.proofs.FilledRows.{filled_bud, filled_slot}
 

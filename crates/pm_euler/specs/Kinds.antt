@@ -3,7 +3,7 @@ use Rattle.std.specs.Prelude.{◌≡◌, ℕ, ◌<◌, ◌==◌, List, [], ◌�
 use Rattle.pm_trees.specs.declared.letters.TheConstants.{LEAF, OPEN, CLOSE}
 use Rattle.pm_trees.specs.BudPattern.{HasRank}
 use Rattle.pm_objects.specs.Objects.{arity_of}
-use Rattle.pm_euler.specs.Planted.{filled}
+use Rattle.pm_euler.specs.PlanePlanted.{filled}
 
 -- Plane trees side by side, with the kinds of their objects in preorder and the text of each: a leaf is of the kind (0, 0),
 -- and a node of degree 2i with a pattern of rank r of the kind (i, r).

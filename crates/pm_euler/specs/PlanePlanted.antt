@@ -1,9 +1,15 @@
 -- How a plane tree with bud patterns at its nodes is a blossoming tree (Schaeffer 1997).
-use Rattle.std.specs.Prelude.{◌≡◌, ℕ, ◌<◌, List, [], ◌∷◌, ◌++◌, length, slice_index_or}
-use Rattle.pm_trees.specs.declared.letters.TheConstants.{LEAF, OPEN, CLOSE}
+use Rattle.std.specs.Prelude.{◌≡◌, ℕ, ◌<◌, ◌==◌, List, [], ◌∷◌, ◌++◌, length, slice_index_or, if◌then◌else◌}
+use Rattle.pm_trees.specs.declared.letters.TheConstants.{LEAF, BUD, OPEN, CLOSE}
 use Rattle.pm_trees.specs.BudPattern.{HasRank}
 use Rattle.pm_objects.specs.Objects.{arity_of}
-use Rattle.pm_euler.specs.Planted.{filled}
+
+-- the pattern with its slots filled by the texts, one after another; its buds stay
+abbrev pub filled : List ℕ → List (List ℕ) → List ℕ
+filled [] texts = []
+filled (x ∷ pattern) [] = if x == BUD then BUD ∷ filled pattern [] else filled pattern []
+filled (x ∷ pattern) (text ∷ texts) =
+    if x == BUD then BUD ∷ filled pattern (text ∷ texts) else text ++ filled pattern texts
 
 -- Plane trees side by side, whose objects in preorder are these, with the text of each: an object of half degree 0 is a
 -- leaf, `l`; one of half degree i is a node of degree 2i: its edge, and the entries of the pattern of the object's rank,

@@ -1,26 +1,16 @@
 -- How a binary tree with bud patterns at its forks is a blossoming tree (Schaeffer 1997).
-use Rattle.std.specs.Prelude.{ℕ, ◌==◌, List, [], ◌∷◌, ◌++◌, if◌then◌else◌}
-use Rattle.pm_trees.specs.declared.letters.TheConstants.{LEAF, BUD, OPEN, CLOSE}
-use Rattle.pm_trees.specs.BudPattern.{HasRank}
-use Rattle.pm_remy.specs.Tree.{Tree, leaf, fork}
+use Rattle.std.specs.Prelude.{◌≡◌, ℕ, suc, Bool, true, false, List, [], ◌∷◌, length, replicate}
+use Rattle.pm_remy.specs.Tree.{Tree, leaves, shape_of}
+use Rattle.pm_euler.specs.PlanePlanted.{IsPlantedPlane}
 
--- the pattern with its slots filled by the texts, one after another; its buds stay
-abbrev pub filled : List ℕ → List (List ℕ) → List ℕ
-filled [] texts = []
-filled (x ∷ pattern) [] = if x == BUD then BUD ∷ filled pattern [] else filled pattern []
-filled (x ∷ pattern) (text ∷ texts) =
-    if x == BUD then BUD ∷ filled pattern (text ∷ texts) else text ++ filled pattern texts
+-- The objects of a shape in preorder: the forks are numbered from one number on, and each leaf is the number behind them.
+abbrev pub shape_objects : ℕ → ℕ → List Bool → List ℕ
+shape_objects behind next [] = []
+shape_objects behind next (true ∷ nodes) = next ∷ shape_objects behind (suc next) nodes
+shape_objects behind next (false ∷ nodes) = behind ∷ shape_objects behind next nodes
 
--- The text of a binary tree as the side of a fork, where its forks, in preorder, have the patterns of these ranks: a leaf
--- is `l`. A fork is a node of degree 4, so with one bud: its edge, and the entries of its pattern, the first slot for
--- the left side and the second for the right side.
-pub data IsSide : Tree → List ℕ → List ℕ → Type 0 where
-  of_leaf : (label : ℕ) → IsSide (leaf label) [] (LEAF ∷ [])
-  of_fork : (left right : Tree) (rank : ℕ) (left_ranks right_ranks pattern left_text right_text : List ℕ)
-      → HasRank 2 pattern rank → IsSide left left_ranks left_text → IsSide right right_ranks right_text
-      → IsSide (fork left right) (rank ∷ left_ranks ++ right_ranks) (OPEN ∷ filled pattern (left_text ∷ right_text ∷ []) ++ CLOSE ∷ [])
-
--- the word of the blossoming tree of that shape and these patterns, planted above the root fork: the text of the root
--- fork without its edge
-abbrev pub IsPlanted : Tree → List ℕ → List ℕ → Type 0
-IsPlanted tree ranks word = IsSide tree ranks (OPEN ∷ word ++ CLOSE ∷ [])
+-- The word of the blossoming tree of that shape, planted above the root fork, where the forks, in preorder, have the patterns
+-- of these ranks: a plane tree whose nodes all have half degree 2, so degree 4.
+pub record IsPlanted (tree : Tree) (ranks word : List ℕ) : Type 0 where
+  pub forks : leaves tree ≡ suc (length ranks)
+  pub plane : IsPlantedPlane (replicate (length ranks) 2) ranks (shape_objects (length ranks) 0 (shape_of tree)) word
