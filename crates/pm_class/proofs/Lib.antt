@@ -1,2 +1,3 @@
+pub mod ExchangedLemmas
 pub mod OneToOneLemmas
 pub mod UndoingLemmas

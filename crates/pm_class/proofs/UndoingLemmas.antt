@@ -18,7 +18,7 @@ module _ {Size : Type 0} (is_size : Size → Type 0) (choice_limits residue_limi
     (samples : Size → List ℕ → RotationSystem → List ℕ → Type 0) (sized : IsSizeWhereAnswered is_size has answers) (one_answer : HasOneAnswer answers)
     (law : (size : Size) → is_size size → AreOneToOne (choice_limits size) (residue_limits size) (has size) (samples size)) where
   -- a map of a size has no other
-  one_size : (map : RotationSystem) (a b : Size) → IsRootedMap map → answers map (Ok a) → answers map (Ok b) → a ≡ b
+  pub one_size : (map : RotationSystem) (a b : Size) → IsRootedMap map → answers map (Ok a) → answers map (Ok b) → a ≡ b
   one_size map a b rooted x y = same_size a b (one_answer map (Ok a) (Ok b) rooted x y (λ e. cc) (λ e. cc))
 
   pub unsampling_undoes : UnsamplingUndoes is_size choice_limits residue_limits has answers samples

@@ -1,3 +1,4 @@
+pub mod Behind
 pub mod ClassLaws
 pub mod OneToOne
 pub mod Sampling

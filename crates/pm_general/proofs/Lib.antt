@@ -1,0 +1,2 @@
+pub mod BipartiteClass
+pub mod DualsOfMaps

@@ -1,0 +1,6 @@
+//! General maps and maps whose faces have given even degrees, as classes that are sampled through a class behind them.
+#![tactic(auto)]
+
+mod bipartite;
+
+pub use bipartite::Bipartite;
