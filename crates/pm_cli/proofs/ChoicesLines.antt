@@ -9,7 +9,7 @@ use Rattle.pm_text.proofs.ReaderLemmas.{one_line_missing, one_line_unfinished, o
 use Rattle.pm_lists.specs.ListLine.{SpellsList, list_line}
 use Rattle.pm_lists.proofs.SpellingLemmas.{tag_parts, has_one_line, spells_one_list, line_is_read_again, line_has_no_newline}
 use Rattle.pm_cli.specs.Sampling.{IsChoicesLine, IsChoicesFile}
-use Rattle.pm_cli.specs.ChoicesFile.{IsOnlyLine}
+use Rattle.pm_cli.specs.steps.ChoicesFile.{IsOnlyLine}
 
 -- files of choices have one line
 pub choices_form : IsOneLineForm IsChoicesFile

@@ -1,146 +1,166 @@
--- How many words begin a command.
-use Rattle.std.proofs.Common.{◌≡◌, ℕ, zero, suc, ◌<◌, ◌≤◌, inl, inr, List, [], ◌∷◌, length, take, refl, sym, ◌∙◌, ap, arith, length-take, lit≤}
+-- How many words begin a command; and words are those of one command.
+use Rattle.std.proofs.Common.{◌≡◌, ℕ, zero, suc, ◌+◌, ◌≤◌, inl, inr, List, [], ◌∷◌, take, refl, sym, ◌∙◌, ap, ap₂, subst, arith}
 use Rattle.std.specs.Prelude.{codes, decimal}
 use Rattle.std.proofs.lemmas.Bool.{cases_lt}
-use Rattle.std.proofs.lemmas.List.{take_all}
-use Rattle.pm_trees.specs.Pairs.{IsRightPair, IsProfile}
-use Rattle.pm_euler.specs.Quartic.{IsQuarticSize}
-use Rattle.pm_cli.specs.declared.words.Command.{Command}
-use Rattle.pm_cli.specs.declared.words.Command.TheVariants.{CloseEulerian, OpenEulerian, Canon, CheckGeneral, SampleQuartic, SampleEulerian, UnsampleQuartic}
-use Rattle.pm_cli.specs.Commands.{spelling, IsCommand, Spells, Begins, IsNoCommand}
-use Rattle.pm_cli.specs.ProfileWord.{profile_text}
-use Rattle.pm_cli.proofs.Verbs.{Verb, closing, opening, canonizing, checking, sampling, unsampling, drawing, word_of, words_with, verb_of, IsCheck, check_general, check_quartic, check_eulerian, IsSample, sample_quartic, sample_eulerian, IsUnsample, unsample_quartic, unsample_eulerian, begins, long, same_verb, verb_is}
-use Rattle.pm_cli.proofs.WordPlaces.{front}
+use Rattle.std.proofs.lemmas.Fmt.{decimal_injective}
+use Rattle.pm_cli.specs.declared.class.Class.{Class}
+use Rattle.pm_cli.specs.declared.class.Class.TheVariants as class
+use Rattle.pm_cli.specs.declared.class.Size.{Size}
+use Rattle.pm_cli.specs.declared.class.Size.TheVariants as sizes
+use Rattle.pm_cli.specs.declared.command.Command.{Command}
+use Rattle.pm_cli.specs.declared.command.Command.TheVariants.{Reads, Makes}
+use Rattle.pm_cli.specs.declared.command.Reader.TheVariants.{CloseEulerian, OfMap, Check, Unsample, Sample}
+use Rattle.pm_cli.specs.declared.command.MapTask.TheVariants.{Canon, CheckGeneral, OpenEulerian}
+use Rattle.pm_cli.specs.declared.command.Maker.TheVariants.{Draw}
+use Rattle.pm_cli.specs.declared.words.Verb.{Verb}
+use Rattle.pm_cli.specs.declared.words.Verb.TheVariants as verb
+use Rattle.pm_cli.specs.Classes.{IsSize, class_of}
+use Rattle.pm_cli.specs.Commands.{verb_word, class_word, size_word, AreDrawNumbers, verb_of, behind, spelling, IsCommand, Spells, Begins, IsNoCommand}
+use Rattle.pm_cli.specs.steps.Words.{StopsAt, AreBehind, IsBehind}
+use Rattle.pm_cli.proofs.PairTexts.{one_profile}
+use Rattle.pm_cli.proofs.StoppingWords.{first_words, later_words}
+use Rattle.pm_cli.proofs.WordTables.{one_verb, one_class, no_general_class}
+
+-- equal fronts have equal shorter fronts
+front : (k j : ℕ) (xs ys : List (List ℕ)) → k ≤ j → take j xs ≡ take j ys → take k xs ≡ take k ys
+front k j xs ys le e = sym (shorter k j xs le) ∙ ap (take k) e ∙ shorter k j ys le where
+  shorter : (k j : ℕ) (xs : List (List ℕ)) → k ≤ j → take k (take j xs) ≡ take k xs
+  shorter zero j xs le = refl
+  shorter (suc k) zero xs le = absurd (omega arith)
+  shorter (suc k) (suc j) [] le = refl
+  shorter (suc k) (suc j) (x ∷ xs) le = ap (λ (ys : List (List ℕ)). x ∷ ys) (shorter k j xs (omega arith))
+
+-- a command stands behind its verb
+stands_behind : (command : Command) → IsCommand command → AreBehind (verb_of command) (behind command)
+stands_behind (Reads CloseEulerian) is = record { word = codes "eulerian"; is = refl; alone = refl }
+stands_behind (Reads (OfMap Canon)) is = refl
+stands_behind (Reads (OfMap CheckGeneral)) is = record { word = codes "general"; is = inl refl; alone = refl }
+stands_behind (Reads (OfMap OpenEulerian)) is = record { word = codes "eulerian"; is = refl; alone = refl }
+stands_behind (Reads (Check class)) is = record { word = class_word class; is = inr (class, refl); alone = refl }
+stands_behind (Reads (Unsample class)) is = record { word = class_word class; is = (class, refl); alone = refl }
+stands_behind (Reads (Sample size)) is = record { size = size; admissible = is; are = refl }
+stands_behind (Makes (Draw seed count) size) is =
+    record { size = size; admissible = is.1; rest = decimal seed ∷ decimal count ∷ []; numbers = record { seed = seed; count = count; numbers = is.0; are = refl }; are = refl }
+
+-- and what stands behind a verb is some command
+some_command : (v : Verb) (words : List (List ℕ)) → AreBehind v words → (command : Command) × IsBehind v words command
+some_command verb.Close words is = (Reads CloseEulerian, record { is_command = tt; is_verb = refl; same = is.alone ∙ ap (λ (w : List ℕ). w ∷ []) is.is })
+some_command verb.Open words is = (Reads (OfMap OpenEulerian), record { is_command = tt; is_verb = refl; same = is.alone ∙ ap (λ (w : List ℕ). w ∷ []) is.is })
+some_command verb.Canon words is = (Reads (OfMap Canon), record { is_command = tt; is_verb = refl; same = is })
+some_command verb.Check words is = elim is.is [
+  | inl general ↦ (Reads (OfMap CheckGeneral), record { is_command = tt; is_verb = refl; same = is.alone ∙ ap (λ (w : List ℕ). w ∷ []) general })
+  | inr class ↦ (Reads (Check class.0), record { is_command = tt; is_verb = refl; same = is.alone ∙ ap (λ (w : List ℕ). w ∷ []) class.1 })
+]
+some_command verb.Unsample words is =
+    let class = is.is in (Reads (Unsample class.0), record { is_command = tt; is_verb = refl; same = is.alone ∙ ap (λ (w : List ℕ). w ∷ []) class.1 })
+some_command verb.Sample words is = (Reads (Sample is.size), record { is_command = is.admissible; is_verb = refl; same = is.are })
+some_command verb.Draw words is =
+    let n = is.numbers in (
+      Makes (Draw n.seed n.count) is.size,
+      record { is_command = (n.numbers, is.admissible); is_verb = refl; same = is.are ∙ ap (λ (rest : List (List ℕ)). class_word (class_of is.size) ∷ size_word is.size ∷ rest) n.are },
+    )
 
 -- words are no command, where a command begins with the first k of them and none with one more
-pub stops_at : (ws : List (List ℕ)) (k : ℕ) → Begins ws k → ((command : Command) → IsCommand command → take (suc k) ws ≡ take (suc k) (spelling command) → ⊥) → IsNoCommand ws k
-stops_at ws k begins none = record {
+stops_at : (words : List (List ℕ)) (k : ℕ) → Begins words k → ((command : Command) → IsCommand command → take (suc k) words ≡ take (suc k) (spelling command) → ⊥) → IsNoCommand words k
+stops_at words k begins none = record {
   none = λ command s. none command s.is_command (ap (take (suc k)) s.same);
   begins = begins;
   greatest = λ j b. elim (cases_lt k j) [
     | inr fine ↦ fine
-    | inl more ↦ absurd (none b.command b.is_command (front (suc k) j ws (spelling b.command) more b.same))
+    | inl more ↦ absurd (none b.command b.is_command (front (suc k) j words (spelling b.command) more b.same))
   ];
 }
 
-pub some_words : (ws : List (List ℕ)) (k : ℕ) → length (take k ws) ≡ k → k ≤ length ws
-some_words ws k e = omega (arith, length-take k ws, e)
+-- no verb stands first
+pub no_verb : (words : List (List ℕ)) → ((v : Verb) → take 1 words ≡ verb_word v ∷ [] → ⊥) → IsNoCommand words 0
+no_verb words none =
+    stops_at words 0 (record { command = Reads (OfMap Canon); is_command = tt; within = omega arith; same = refl }) (λ command is e. none (verb_of command) e)
 
--- the first letter of the second word, by which commands with one first word differ
-unfoldable pub second_letter : List (List ℕ) → ℕ
-second_letter [] = 0
-second_letter (w ∷ []) = 0
-second_letter (w ∷ ([] ∷ ws)) = 0
-second_letter (w ∷ ((x ∷ xs) ∷ ws)) = x
+-- a verb stands first, and the words behind it are no such words
+pub stops_behind : (words : List (List ℕ)) (v : Verb) (rest : List (List ℕ)) (k : ℕ) → words ≡ verb_word v ∷ rest → StopsAt (AreBehind v) rest k → IsNoCommand words (1 + k)
+stops_behind words v rest k e stops =
+    subst (λ (n : ℕ). IsNoCommand words n) (omega arith) (subst (λ (w : List (List ℕ)). IsNoCommand w (suc k)) (sym e) (stops_at (verb_word v ∷ rest) (suc k) (record {
+      command = some.0;
+      is_command = let s = some.1 in s.is_command;
+      within = let l = stops.within in omega arith;
+      same = ap₂ (λ (u : Verb) (w : List (List ℕ)). verb_word u ∷ w) (let s = some.1 in sym s.is_verb) (stops.same ∙ (let s = some.1 in ap (take k) s.same));
+    }) none)) where
+      some : (command : Command) × IsBehind v stops.whole command
+      some = some_command v stops.whole stops.is_in
 
--- the words of a command, and more of them
-pub more_words : (ws : List (List ℕ)) (command : Command) (k : ℕ) → IsCommand command → length (spelling command) ≡ k → take k ws ≡ spelling command → k < length ws → IsNoCommand ws k
-more_words ws command k is e same more =
-    stops_at ws k (record { command = command; is_command = is; within = omega arith; same = same ∙ sym (take_all k (spelling command) (omega arith)) }) (λ other _ same_more. none other same_more) where
-      some : (verb : Verb) → 0 < words_with verb
-      some closing = omega arith
-      some opening = omega arith
-      some canonizing = omega arith
-      some checking = omega arith
-      some sampling = omega arith
-      some unsampling = omega arith
-      some drawing = omega arith
+      none : (command : Command) → IsCommand command → take (suc (suc k)) (verb_word v ∷ rest) ≡ take (suc (suc k)) (spelling command) → ⊥
+      none command is same =
+          let one = one_verb (verb_of command) v (sym (first_words same)) in
+          stops.no_more (behind command) (subst (λ (u : Verb). AreBehind u (behind command)) one (stands_behind command is)) (later_words same)
 
-      none : (other : Command) → take (suc k) ws ≡ take (suc k) (spelling other) → ⊥
-      none other same_more =
-          let positive : 0 < k = omega (arith, some (verb_of command), long command, e) in
-          let first : take 1 ws ≡ word_of (verb_of command) ∷ [] =
-          front 1 k ws (spelling command) (omega arith) (same ∙ sym (take_all k (spelling command) (omega arith))) ∙ begins command in
-          let verbs : verb_of other ≡ verb_of command = same_verb (suc k) ws (verb_of command) other (omega arith) first same_more in
-          let lengths : length (spelling other) ≡ length (spelling command) = long other ∙ ap words_with verbs ∙ sym (long command) in
-          omega (arith, ap length same_more, length-take (suc k) ws, length-take (suc k) (spelling other), lengths)
+-- a verb stands first, and words of a command behind it
+pub spells_behind : (words : List (List ℕ)) (v : Verb) (rest : List (List ℕ)) (command : Command) → words ≡ verb_word v ∷ rest → IsBehind v rest command → Spells words command
+spells_behind words v rest command e is =
+    record { is_command = is.is_command; same = e ∙ ap₂ (λ (u : Verb) (w : List (List ℕ)). verb_word u ∷ w) (sym is.is_verb) is.same }
 
--- all words are those of the command
-pub all_words : (ws : List (List ℕ)) (command : Command) (k : ℕ) → IsCommand command → take k ws ≡ spelling command → length ws ≤ k → Spells ws command
-all_words ws command k is same all = record { is_command = is; same = sym (take_all k ws all) ∙ same }
+-- sizes of a class
+data IsOfClass : Class → Size → Type 0 where
+  quartic : (size : ℕ) → IsOfClass class.Quartic (sizes.Quartic size)
+  eulerian : (profile : List (ℕ × ℕ)) → IsOfClass class.Eulerian (sizes.Eulerian profile)
 
--- no first word of a command
-pub no_first_word : (ws : List (List ℕ)) → ((verb : Verb) → take 1 ws ≡ word_of verb ∷ [] → ⊥) → IsNoCommand ws 0
-no_first_word ws none =
-    stops_at ws 0 (record { command = Canon; is_command = tt; within = omega arith; same = refl }) (λ command is e. none (verb_of command) (e ∙ begins command))
+is_of_class : (size : Size) → IsOfClass (class_of size) size
+is_of_class (sizes.Quartic size) = quartic size
+is_of_class (sizes.Eulerian profile) = eulerian profile
 
-pub one_is_a_size : IsQuarticSize 1
-one_is_a_size = record { some = omega arith; few = omega arith }
+one_size_of : (c : Class) (s t : Size) → IsOfClass c s → IsOfClass c t → IsSize s → IsSize t → size_word s ≡ size_word t → s ≡ t
+one_size_of _ _ _ (quartic a) (quartic b) x y e = let p = x.few in let q = y.few in ap sizes.Quartic (decimal_injective a b (omega arith) (omega arith) e)
+one_size_of _ _ _ (eulerian a) (eulerian b) x y e = ap sizes.Eulerian (one_profile a b x y e)
 
--- `close` alone, or with another class
-pub close_alone : (ws : List (List ℕ)) → take 1 ws ≡ codes "close" ∷ [] → (take 2 ws ≡ codes "close" ∷ codes "eulerian" ∷ [] → ⊥) → IsNoCommand ws 1
-close_alone ws first eulerian =
-    stops_at ws 1 (record { command = CloseEulerian; is_command = tt; within = some_words ws 1 (ap length first); same = first })
-    (λ command is e. eulerian (e ∙ ap (λ (c : Command). take 2 (spelling c)) (verb_is 2 ws closing command (omega arith) first e)))
+-- a class and a size of it have their own words
+one_size : (s t : Size) → IsSize s → IsSize t → class_word (class_of s) ≡ class_word (class_of t) → size_word s ≡ size_word t → s ≡ t
+one_size s t x y c e =
+    one_size_of (class_of t) s t (subst (λ (class : Class). IsOfClass class s) (one_class (class_of s) (class_of t) c) (is_of_class s)) (is_of_class t) x y e
 
--- `open` alone, or with another class
-pub open_alone : (ws : List (List ℕ)) → take 1 ws ≡ codes "open" ∷ [] → (take 2 ws ≡ codes "open" ∷ codes "eulerian" ∷ [] → ⊥) → IsNoCommand ws 1
-open_alone ws first eulerian =
-    stops_at ws 1 (record { command = OpenEulerian; is_command = tt; within = some_words ws 1 (ap length first); same = first })
-    (λ command is e. eulerian (e ∙ ap (λ (c : Command). take 2 (spelling c)) (verb_is 2 ws opening command (omega arith) first e)))
+-- the commands of a verb
+data IsOfVerb : Verb → Command → Type 0 where
+  closes : IsOfVerb verb.Close (Reads CloseEulerian)
+  opens : IsOfVerb verb.Open (Reads (OfMap OpenEulerian))
+  canonizes : IsOfVerb verb.Canon (Reads (OfMap Canon))
+  counts : IsOfVerb verb.Check (Reads (OfMap CheckGeneral))
+  checks : (class : Class) → IsOfVerb verb.Check (Reads (Check class))
+  unsamples : (class : Class) → IsOfVerb verb.Unsample (Reads (Unsample class))
+  samples : (size : Size) → IsOfVerb verb.Sample (Reads (Sample size))
+  draws : (seed count : ℕ) (size : Size) → IsOfVerb verb.Draw (Makes (Draw seed count) size)
 
-no_check : (ws : List (List ℕ)) → (take 2 ws ≡ codes "check" ∷ codes "general" ∷ [] → ⊥) → (take 2 ws ≡ codes "check" ∷ codes "quartic" ∷ [] → ⊥) → (take 2 ws ≡ codes "check" ∷ codes "eulerian" ∷ [] → ⊥)
-    → (command : Command) → IsCheck command → take 2 ws ≡ take 2 (spelling command) → ⊥
-no_check ws general quartic eulerian _ check_general e = general e
-no_check ws general quartic eulerian _ check_quartic e = quartic e
-no_check ws general quartic eulerian _ check_eulerian e = eulerian e
+is_of_verb : (command : Command) → IsOfVerb (verb_of command) command
+is_of_verb (Reads CloseEulerian) = closes
+is_of_verb (Reads (OfMap Canon)) = canonizes
+is_of_verb (Reads (OfMap CheckGeneral)) = counts
+is_of_verb (Reads (OfMap OpenEulerian)) = opens
+is_of_verb (Reads (Check class)) = checks class
+is_of_verb (Reads (Unsample class)) = unsamples class
+is_of_verb (Reads (Sample size)) = samples size
+is_of_verb (Makes (Draw seed count) size) = draws seed count size
 
--- `check` alone, or with another class
-pub check_alone : (ws : List (List ℕ)) → take 1 ws ≡ codes "check" ∷ [] → (take 2 ws ≡ codes "check" ∷ codes "general" ∷ [] → ⊥) → (take 2 ws ≡ codes "check" ∷ codes "quartic" ∷ [] → ⊥) → (take 2 ws ≡ codes "check" ∷ codes "eulerian" ∷ [] → ⊥) → IsNoCommand ws 1
-check_alone ws first general quartic eulerian =
-    stops_at ws 1 (record { command = CheckGeneral; is_command = tt; within = some_words ws 1 (ap length first); same = first })
-    (λ command is e. no_check ws general quartic eulerian command (verb_is 2 ws checking command (omega arith) first e) e)
+one_drawing : {s t : Size} {a b c d : ℕ} → s ≡ t → a ≡ b → c ≡ d → Makes (Draw a c) s ≡ Makes (Draw b d) t
+one_drawing x y z = cc
 
-no_unsample : (ws : List (List ℕ)) → (take 2 ws ≡ codes "unsample" ∷ codes "quartic" ∷ [] → ⊥) → (take 2 ws ≡ codes "unsample" ∷ codes "eulerian" ∷ [] → ⊥)
-    → (command : Command) → IsUnsample command → take 2 ws ≡ take 2 (spelling command) → ⊥
-no_unsample ws quartic eulerian _ unsample_quartic e = quartic e
-no_unsample ws quartic eulerian _ unsample_eulerian e = eulerian e
+one_count : {s c t d : ℕ} → AreDrawNumbers s c → AreDrawNumbers t d → decimal c ≡ decimal d → c ≡ d
+one_count {s} {c} {t} {d} x y e = let p = x.few in let q = y.few in decimal_injective c d (omega arith) (omega arith) e
 
--- `unsample` alone, or with another class
-pub unsample_alone : (ws : List (List ℕ)) → take 1 ws ≡ codes "unsample" ∷ [] → (take 2 ws ≡ codes "unsample" ∷ codes "quartic" ∷ [] → ⊥) → (take 2 ws ≡ codes "unsample" ∷ codes "eulerian" ∷ [] → ⊥) → IsNoCommand ws 1
-unsample_alone ws first quartic eulerian =
-    stops_at ws 1 (record { command = UnsampleQuartic; is_command = tt; within = some_words ws 1 (ap length first); same = first })
-    (λ command is e. no_unsample ws quartic eulerian command (verb_is 2 ws unsampling command (omega arith) first e) e)
+one_of_verb : (v : Verb) (a b : Command) → IsOfVerb v a → IsOfVerb v b → IsCommand a → IsCommand b → behind a ≡ behind b → a ≡ b
+one_of_verb _ _ _ closes closes x y e = refl
+one_of_verb _ _ _ opens opens x y e = refl
+one_of_verb _ _ _ canonizes canonizes x y e = refl
+one_of_verb _ _ _ counts counts x y e = refl
+one_of_verb _ _ _ counts (checks class) x y e = absurd (no_general_class class (first_words e))
+one_of_verb _ _ _ (checks class) counts x y e = absurd (no_general_class class (sym (first_words e)))
+one_of_verb _ _ _ (checks a) (checks b) x y e = ap (λ (class : Class). Reads (Check class)) (one_class a b (first_words e))
+one_of_verb _ _ _ (unsamples a) (unsamples b) x y e = ap (λ (class : Class). Reads (Unsample class)) (one_class a b (first_words e))
+one_of_verb _ _ _ (samples a) (samples b) x y e = ap (λ (size : Size). Reads (Sample size)) (one_size a b x y (first_words e) (first_words (later_words e)))
+one_of_verb _ _ _ (draws s c a) (draws t d b) x y e =
+    let rest = later_words (later_words e) in
+    one_drawing (one_size a b x.1 y.1 (first_words e) (first_words (later_words e))) (let p = x.0 in let q = y.0 in decimal_injective s t p.fits q.fits (first_words rest))
+    (one_count x.0 y.0 (first_words (later_words rest)))
 
--- where no sampling begins with one word more, no command does
-module _ (ws : List (List ℕ)) (k : ℕ) (first : take 1 ws ≡ codes "sample" ∷ [])
-    (quartic : (size : ℕ) → IsQuarticSize size → take (suc k) ws ≡ take (suc k) (spelling (SampleQuartic size)) → ⊥)
-    (eulerian : (profile : List (ℕ × ℕ)) → IsProfile profile → take (suc k) ws ≡ take (suc k) (spelling (SampleEulerian profile)) → ⊥) where
-  no_such : (command : Command) → IsSample command → IsCommand command → take (suc k) ws ≡ take (suc k) (spelling command) → ⊥
-  no_such _ (sample_quartic size) is e = quartic size is e
-  no_such _ (sample_eulerian profile) is e = eulerian profile is e
-
-  no_sample : (command : Command) → IsCommand command → take (suc k) ws ≡ take (suc k) (spelling command) → ⊥
-  no_sample command is e = no_such command (verb_is (suc k) ws sampling command (omega arith) first e) is e
-
--- `sample` alone, or with another class
-pub sample_alone : (ws : List (List ℕ)) → take 1 ws ≡ codes "sample" ∷ [] → (take 2 ws ≡ codes "sample" ∷ codes "quartic" ∷ [] → ⊥) → (take 2 ws ≡ codes "sample" ∷ codes "eulerian" ∷ [] → ⊥) → IsNoCommand ws 1
-sample_alone ws first quartic eulerian =
-    stops_at ws 1 (record { command = SampleQuartic 1; is_command = one_is_a_size; within = some_words ws 1 (ap length first); same = first })
-    (no_sample ws 1 first (λ size is e. quartic e) (λ profile is e. eulerian e))
-
--- words of another class
-pub other_second : (ws vs us : List (List ℕ)) (a b : ℕ) → take 2 ws ≡ vs → second_letter vs ≡ a → second_letter (take 2 us) ≡ b → (a ≡ b → ⊥) → take 3 ws ≡ take 3 us → ⊥
-other_second ws vs us a b two x y differ e = differ (sym x ∙ ap second_letter (sym two ∙ front 2 3 ws us (omega arith) e) ∙ y)
-
--- one vertex of degree 2 is a profile
-pub one_is_a_profile : IsProfile ((2, 1) ∷ [])
-one_is_a_profile = record { are_pairs = record { some = omega arith; right = right }; few = lit≤ tt } where
-  right : (k : ℕ) → k < 1 → IsRightPair ((2, 1) ∷ []) k
-  right zero l = record { even = refl; some = omega arith; few = omega arith; rising = omega arith; counted = omega arith }
-  right (suc k) l = absurd (omega arith)
-
--- with the class, and no size
-pub quartic_class : (ws : List (List ℕ)) → take 2 ws ≡ codes "sample" ∷ codes "quartic" ∷ [] → ((size : ℕ) → IsQuarticSize size → take 3 ws ≡ codes "sample" ∷ codes "quartic" ∷ decimal size ∷ [] → ⊥) → IsNoCommand ws 2
-unfolding second_letter
-quartic_class ws two none =
-    stops_at ws 2 (record { command = SampleQuartic 1; is_command = one_is_a_size; within = some_words ws 2 (ap length two); same = two })
-    (no_sample ws 2 (front 1 2 ws (codes "sample" ∷ codes "quartic" ∷ []) (omega arith) two) none
-    (λ profile is e. other_second ws (codes "sample" ∷ codes "quartic" ∷ []) (spelling (SampleEulerian profile)) 113 101 two refl refl (λ same. omega arith) e))
-
-pub eulerian_class : (ws : List (List ℕ)) → take 2 ws ≡ codes "sample" ∷ codes "eulerian" ∷ [] → ((profile : List (ℕ × ℕ)) → IsProfile profile → take 3 ws ≡ codes "sample" ∷ codes "eulerian" ∷ profile_text profile ∷ [] → ⊥) → IsNoCommand ws 2
-unfolding second_letter
-eulerian_class ws two none =
-    stops_at ws 2 (record { command = SampleEulerian ((2, 1) ∷ []); is_command = one_is_a_profile; within = some_words ws 2 (ap length two); same = two })
-    (no_sample ws 2 (front 1 2 ws (codes "sample" ∷ codes "eulerian" ∷ []) (omega arith) two)
-    (λ size is e. other_second ws (codes "sample" ∷ codes "eulerian" ∷ []) (spelling (SampleQuartic size)) 101 113 two refl refl (λ same. omega arith) e) none)
+-- words are those of one command
+pub one_command : (words : List (List ℕ)) (a b : Command) → Spells words a → Spells words b → a ≡ b
+one_command words a b x y =
+    let same = sym x.same ∙ y.same in
+    let verbs = one_verb (verb_of a) (verb_of b) (first_words same) in
+    one_of_verb (verb_of b) a b (subst (λ (v : Verb). IsOfVerb v a) verbs (is_of_verb a)) (is_of_verb b) x.is_command y.is_command (later_words same)

@@ -1,81 +1,101 @@
 -- Words and bytes have one answer.
-use Rattle.std.proofs.Common.{◌≡◌, ℕ, true, false, List, refl, sym, ap, ◌∙◌, subst, arith}
-use Rattle.std.specs.Prelude.{◌/◌, Result, Err}
-use Rattle.pm_limits.specs.declared.TheConstants.{MAX_EDGES}
-use Rattle.pm_map.specs.ClassRules.{IsQuarticAnswer}
-use Rattle.pm_euler.specs.Bounds.{quartic_choices, quartic_residues, eulerian_choices, eulerian_residues}
-use Rattle.pm_euler.specs.Quartic.{SamplesQuartic}
-use Rattle.pm_euler.specs.Eulerian.{IsEulerianAnswer, SamplesEulerian}
-use Rattle.pm_euler.proofs.EulerianLists.{one_eulerian_list}
-use Rattle.pm_euler.proofs.EulerianMaps.{one_eulerian_answer}
-use Rattle.pm_euler.proofs.EulerianSamples.{one_eulerian_sample}
-use Rattle.pm_euler.proofs.OneSample.{one_quartic_sample}
-use Rattle.pm_euler.proofs.QuarticLists.{one_quartic_list}
-use Rattle.pm_euler.proofs.QuarticMaps.{quartic_size, one_quartic_answer}
-use Rattle.pm_cli.specs.declared.words.Command.{Command}
-use Rattle.pm_cli.specs.declared.words.Command.TheVariants.{CloseEulerian, OpenEulerian, Canon, CheckGeneral, CheckQuartic, CheckEulerian, SampleQuartic, SampleEulerian, UnsampleQuartic, UnsampleEulerian, DrawQuartic, DrawEulerian}
+use Rattle.std.proofs.Common.{◌≡◌, ℕ, List, refl, ap, subst, arith}
+use Rattle.std.specs.Prelude.{Result, Err}
+use Rattle.pm_class.specs.Sampling.{HasOneAnswer as HasOneSize}
+use Rattle.pm_cli.specs.declared.class.Class.{Class}
+use Rattle.pm_cli.specs.declared.class.Class.TheVariants as class
+use Rattle.pm_cli.specs.declared.class.Size.{Size}
+use Rattle.pm_cli.specs.declared.class.Size.TheVariants as sizes
+use Rattle.pm_cli.specs.declared.command.Command.TheVariants.{Reads, Makes}
+use Rattle.pm_cli.specs.declared.command.Maker.{Maker}
+use Rattle.pm_cli.specs.declared.command.Maker.TheVariants.{Draw}
+use Rattle.pm_cli.specs.declared.command.Reader.{Reader}
+use Rattle.pm_cli.specs.declared.command.Reader.TheVariants.{CloseEulerian, OfMap, Check, Unsample, Sample}
 use Rattle.pm_cli.specs.declared.refusal.Refusal.{Refusal}
 use Rattle.pm_cli.specs.declared.refusal.Refusal.TheVariants.{Usage}
-use Rattle.pm_cli.specs.MapCommands.{HasCanonicalText, IsCountsText}
-use Rattle.pm_cli.specs.Commands.{reads, IsCommand, Spells, IsNoCommand}
-use Rattle.pm_cli.specs.Answer.{no_command, too_long, of_file, of_words, CommandAnswers}
+use Rattle.pm_cli.specs.Answer.{checking, AnswersReader, AnswersSize, no_command, too_long, of_file, of_size}
+use Rattle.pm_cli.specs.Classes.{quartic_sampler, eulerian_sampler, AtSize, sized, IsSize, InClass, class_at}
+use Rattle.pm_cli.specs.Commands.{IsReader}
 use Rattle.pm_cli.specs.Laws.{HasOneAnswer}
+use Rattle.pm_cli.specs.MapAnswers.{task_relation}
+use Rattle.pm_cli.specs.steps.ClassLaws.{IsSampler}
+use Rattle.pm_cli.proofs.ClassLaws.{AreSamplers}
+use Rattle.pm_cli.proofs.CommandWords.{one_command}
 use Rattle.pm_cli.proofs.OneClosing.{closes_once}
-use Rattle.pm_cli.proofs.OneCommand.{one_command}
-use Rattle.pm_cli.proofs.OneMapAnswer.{one_canonical_text, one_counts_text, map_answers_once, class_answers_once}
-use Rattle.pm_cli.proofs.OneOpening.{opens_once}
+use Rattle.pm_cli.proofs.OneMapAnswer.{map_answers_once, one_counting, one_task}
 use Rattle.pm_cli.proofs.OneSampling.{samples_once, draws_once}
-use Rattle.pm_cli.proofs.OneUnsampling.{unsamples_once}
+use Rattle.pm_cli.proofs.OneUnsampling.{HasOneUnsampling, one_unsampling, unsamples_once}
+use Rattle.pm_class.specs.Sampling.{HasOneSample}
+use Rattle.pm_lists.specs.Valid.{IsValidList}
+use Rattle.pm_map.specs.Rotation.{RotationSystem}
 
--- a command has one answer to a file
-answers_once : (command : Command) → IsCommand command → (bytes : List ℕ) (a b : Result (List ℕ) Refusal) → CommandAnswers command bytes a → CommandAnswers command bytes b → a ≡ b
-answers_once CloseEulerian is bytes a b x y = closes_once bytes a b x y
-answers_once OpenEulerian is bytes a b x y = opens_once bytes a b x y
-answers_once Canon is bytes a b x y = map_answers_once MAX_EDGES HasCanonicalText one_canonical_text bytes a b x y
-answers_once CheckGeneral is bytes a b x y = map_answers_once (MAX_EDGES / 2) IsCountsText one_counts_text bytes a b x y
-answers_once CheckQuartic is bytes a b x y = class_answers_once IsQuarticAnswer one_quartic_answer bytes a b x y
-answers_once CheckEulerian is bytes a b x y = class_answers_once IsEulerianAnswer one_eulerian_answer bytes a b x y
-answers_once (SampleQuartic size) is bytes a b x y = samples_once (quartic_choices size) (SamplesQuartic size) (one_quartic_sample size is) (λ choices m r h. h.valid) bytes a b x y
-answers_once (SampleEulerian profile) is bytes a b x y =
-    samples_once (eulerian_choices profile) (SamplesEulerian profile) (one_eulerian_sample profile is) (λ choices m r h. h.valid) bytes a b x y
-answers_once UnsampleQuartic is bytes a b x y =
-    unsamples_once quartic_choices quartic_residues SamplesQuartic IsQuarticAnswer one_quartic_answer (λ m n rooted h. one_quartic_list n (quartic_size m n rooted h)) bytes a b x y
-answers_once UnsampleEulerian is bytes a b x y =
-    unsamples_once eulerian_choices eulerian_residues SamplesEulerian IsEulerianAnswer one_eulerian_answer (λ m pairs rooted h. one_eulerian_list pairs h.0) bytes a b x y
-answers_once (DrawQuartic size seed count) is bytes a b x y =
-    draws_once (quartic_choices size) (SamplesQuartic size) (one_quartic_sample size is.0) (λ choices m r h. h.valid) seed count a b x y
-answers_once (DrawEulerian profile seed count) is bytes a b x y =
-    draws_once (eulerian_choices profile) (SamplesEulerian profile) (one_eulerian_sample profile is.0) (λ choices m r h. h.valid) seed count a b x y
+-- what the laws of a class say at one size
+record HasSizeLaws (at : AtSize) : Type 0 where
+  one_sample : HasOneSample at.samples
+  valid : (choices : List ℕ) (m : RotationSystem) (r : List ℕ) → at.samples choices m r → IsValidList choices at.choice_limits
 
--- words don't spell a command that reads and one that reads nothing
-reads_or_not : (words : List (List ℕ)) (command other : Command) → Spells words command → Spells words other → reads command ≡ true → reads other ≡ false → ⊥
-reads_or_not words command other x y reader none =
-    let same = one_command command other x.is_command y.is_command (sym x.same ∙ y.same) in
-    true_false (sym reader ∙ ap reads same ∙ none) where
-      true_false : true ≡ false → ⊥
-      true_false e = cc
+module _ (laws : AreSamplers) where
+  quartic_laws : IsSampler quartic_sampler
+  quartic_laws = laws.quartic
 
-pub has_one_answer : HasOneAnswer
-has_one_answer words bytes one other (no_command k none) (no_command j none') =
-    ap (λ (m : ℕ). Err (Usage m)) (greatest_is_one words k j none none') where
-      greatest_is_one : (words : List (List ℕ)) (k j : ℕ) → IsNoCommand words k → IsNoCommand words j → k ≡ j
-      greatest_is_one words k j a b = omega (arith, a.greatest j b.begins, b.greatest k a.begins)
-has_one_answer words bytes one other (no_command k none) (too_long command spells _ _) = absurd (none.none command spells)
-has_one_answer words bytes one other (no_command k none) (of_file command spells _ _ _ _) = absurd (none.none command spells)
-has_one_answer words bytes one other (no_command k none) (of_words command spells _ _ _) = absurd (none.none command spells)
-has_one_answer words bytes one other (of_words command spells _ _ _) (no_command k none) = absurd (none.none command spells)
-has_one_answer words bytes one other (too_long command spells reader _) (of_words command' spells' none _ _) = absurd (reads_or_not words command command' spells spells' reader none)
-has_one_answer words bytes one other (of_words command' spells' none _ _) (too_long command spells reader _) = absurd (reads_or_not words command command' spells spells' reader none)
-has_one_answer words bytes one other (of_file command spells reader _ _ _) (of_words command' spells' none _ _) = absurd (reads_or_not words command command' spells spells' reader none)
-has_one_answer words bytes one other (of_words command' spells' none _ _) (of_file command spells reader _ _ _) = absurd (reads_or_not words command command' spells spells' reader none)
-has_one_answer words bytes one other (of_words command spells _ a x) (of_words command' spells' _ b y) =
-    let same : command' ≡ command = one_command command' command spells'.is_command spells.is_command (sym spells'.same ∙ spells.same) in
-    answers_once command spells.is_command bytes a b x (subst (λ (c : Command). CommandAnswers c bytes b) same y)
-has_one_answer words bytes one other (too_long command spells _ _) (no_command k none) = absurd (none.none command spells)
-has_one_answer words bytes one other (of_file command spells _ _ _ _) (no_command k none) = absurd (none.none command spells)
-has_one_answer words bytes one other (too_long command spells _ long) (too_long command' spells' _ long') = refl
-has_one_answer words bytes one other (too_long command spells _ long) (of_file command' spells' _ short _ _) = absurd (omega arith)
-has_one_answer words bytes one other (of_file command' spells' _ short _ _) (too_long command spells _ long) = absurd (omega arith)
-has_one_answer words bytes one other (of_file command spells _ _ a x) (of_file command' spells' _ _ b y) =
-    let same : command' ≡ command = one_command command' command spells'.is_command spells.is_command (sym spells'.same ∙ spells.same) in
-    answers_once command spells.is_command bytes a b x (subst (λ (c : Command). CommandAnswers c bytes b) same y)
+  eulerian_laws : IsSampler eulerian_sampler
+  eulerian_laws = laws.eulerian
+
+  sized_laws : (size : Size) → IsSize size → HasSizeLaws (sized size)
+  sized_laws (sizes.Quartic size) is = let one = quartic_laws.one_to_one size is in record { one_sample = one.one_sample; valid = λ c m r h. let only = one.only c m r h in only.valid }
+  sized_laws (sizes.Eulerian profile) is = let one = eulerian_laws.one_to_one profile is in record { one_sample = one.one_sample; valid = λ c m r h. let only = one.only c m r h in only.valid }
+
+  one_count : (c : Class) → HasOneSize (let at : InClass = class_at c in at.counts)
+  one_count class.Quartic = one_counting quartic_sampler.answers quartic_laws.one_answer
+  one_count class.Eulerian = one_counting eulerian_sampler.answers eulerian_laws.one_answer
+
+  one_pair : (c : Class) → HasOneUnsampling (let at : InClass = class_at c in at.unsamples)
+  one_pair class.Quartic = one_unsampling quartic_sampler quartic_laws
+  one_pair class.Eulerian = one_unsampling eulerian_sampler eulerian_laws
+
+  -- a command has one answer to a file
+  reads_once : (reader : Reader) → IsReader reader → (bytes : List ℕ) (a b : Result (List ℕ) Refusal) → AnswersReader reader bytes a → AnswersReader reader bytes b → a ≡ b
+  reads_once CloseEulerian is bytes a b x y = closes_once bytes a b x y
+  reads_once (OfMap task) is bytes a b x y = map_answers_once (task_relation task) (one_task task) bytes a b x y
+  reads_once (Check class) is bytes a b x y = map_answers_once (checking (class_at class)) (one_count class) bytes a b x y
+  reads_once (Unsample class) is bytes a b x y = unsamples_once (class_at class) (one_pair class) bytes a b x y
+  reads_once (Sample size) is bytes a b x y = let one = sized_laws size is in samples_once (sized size) one.one_sample one.valid bytes a b x y
+
+  -- and one to a size
+  makes_once : (task : Maker) (size : Size) → IsSize size → (a b : Result (List ℕ) Refusal) → AnswersSize task (sized size) a → AnswersSize task (sized size) b → a ≡ b
+  makes_once (Draw seed count) size is a b x y = let one = sized_laws size is in draws_once (sized size) one.one_sample one.valid seed count a b x y
+
+  same_reader : {r s : Reader} → Reads r ≡ Reads s → r ≡ s
+  same_reader e = cc
+
+  same_task : {t u : Maker} {r s : Size} → Makes t r ≡ Makes u s → t ≡ u
+  same_task e = cc
+
+  same_size : {t u : Maker} {r s : Size} → Makes t r ≡ Makes u s → r ≡ s
+  same_size e = cc
+
+  reads_or_makes : {r : Reader} {t : Maker} {s : Size} → Reads r ≡ Makes t s → ⊥
+  reads_or_makes e = cc
+
+  pub has_one_answer : HasOneAnswer
+  has_one_answer words bytes _ _ (no_command k x) (no_command j y) = ap (λ (m : ℕ). Err (Usage m)) (omega (arith, x.greatest j y.begins, y.greatest k x.begins))
+  has_one_answer words bytes _ _ (no_command k x) (too_long reader y _) = absurd (x.none (Reads reader) y)
+  has_one_answer words bytes _ _ (no_command k x) (of_file reader y _ _ _) = absurd (x.none (Reads reader) y)
+  has_one_answer words bytes _ _ (no_command k x) (of_size task size y _ _) = absurd (x.none (Makes task size) y)
+  has_one_answer words bytes _ _ (too_long reader x _) (no_command k y) = absurd (y.none (Reads reader) x)
+  has_one_answer words bytes _ _ (of_file reader x _ _ _) (no_command k y) = absurd (y.none (Reads reader) x)
+  has_one_answer words bytes _ _ (of_size task size x _ _) (no_command k y) = absurd (y.none (Makes task size) x)
+  has_one_answer words bytes _ _ (too_long reader x _) (too_long other y _) = refl
+  has_one_answer words bytes _ _ (too_long reader x long) (of_file other y short _ _) = absurd (omega arith)
+  has_one_answer words bytes _ _ (of_file other x short _ _) (too_long reader y long) = absurd (omega arith)
+  has_one_answer words bytes _ _ (too_long reader x _) (of_size task size y _ _) = absurd (reads_or_makes (one_command words (Reads reader) (Makes task size) x y))
+  has_one_answer words bytes _ _ (of_size task size x _ _) (too_long reader y _) = absurd (reads_or_makes (one_command words (Reads reader) (Makes task size) y x))
+  has_one_answer words bytes _ _ (of_file reader x _ _ _) (of_size task size y _ _) = absurd (reads_or_makes (one_command words (Reads reader) (Makes task size) x y))
+  has_one_answer words bytes _ _ (of_size task size x _ _) (of_file reader y _ _ _) = absurd (reads_or_makes (one_command words (Reads reader) (Makes task size) y x))
+  has_one_answer words bytes _ _ (of_file reader x _ a h) (of_file other y _ b i) =
+      let same = same_reader (one_command words (Reads other) (Reads reader) y x) in
+      reads_once reader x.is_command bytes a b h (subst (λ (r : Reader). AnswersReader r bytes b) same i)
+  has_one_answer words bytes _ _ (of_size task size x a h) (of_size other measure y b i) =
+      let same = one_command words (Makes other measure) (Makes task size) y x in
+      makes_once task size (let is = x.is_command in is.1) a b h
+      (subst (λ (t : Maker). AnswersSize t (sized size) b) (same_task same) (subst (λ (s : Size). AnswersSize other (sized s) b) (same_size same) i))

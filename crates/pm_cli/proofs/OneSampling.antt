@@ -12,10 +12,12 @@ use Rattle.pm_lists.specs.ListLine.{list_line}
 use Rattle.pm_map.specs.Rotation.{RotationSystem}
 use Rattle.pm_mapfile.specs.MapText.{IsMapText}
 use Rattle.pm_cli.specs.declared.refusal.Refusal.{Refusal}
-use Rattle.pm_cli.specs.declared.refusal.Refusal.TheVariants.{Usage, Text, Limited, Map, Tree, Invalid}
+use Rattle.pm_cli.specs.declared.refusal.Refusal.TheVariants.{Text, Invalid}
 use Rattle.pm_draw.specs.Drawn.{generator_of, words_of}
 use Rattle.pm_cli.specs.Drawing.{Draws}
-use Rattle.pm_cli.specs.Sampling.{IsChoicesFile, HasChoices, IsSampleText, Samples}
+use Rattle.pm_class.specs.Sampling.{HasOneSample}
+use Rattle.pm_cli.specs.Classes.{AtSize}
+use Rattle.pm_cli.specs.Sampling.{IsChoicesFile, HasChoices, IsSampleText, Samples, sampled, no_list, not_valid}
 use Rattle.pm_cli.proofs.ChoicesLines.{one_choices}
 use Rattle.pm_cli.proofs.OneText.{one_text}
 use Rattle.pm_cli.proofs.Records.{records_once}
@@ -45,10 +47,9 @@ one_list_refusal values bounds (list.Entry p v b) (list.Entry q w c) x y =
       entries p q v w b c e f g = cc
 
 -- sampling has one answer, where choices give one map and one residue, and only valid ones do
-module _ (bounds : List ℕ) (samples : List ℕ → RotationSystem → List ℕ → Type 0)
-    (one : (choices : List ℕ) (m n : RotationSystem) (r q : List ℕ) → samples choices m r → samples choices n q → (m ≡ n) × (r ≡ q))
-    (valid : (choices : List ℕ) (m : RotationSystem) (r : List ℕ) → samples choices m r → IsValidList choices bounds) where
-  pub one_sample_text : (choices a b : List ℕ) → IsSampleText samples choices a → IsSampleText samples choices b → a ≡ b
+module _ (at : AtSize) (one : HasOneSample at.samples)
+    (valid : (choices : List ℕ) (m : RotationSystem) (r : List ℕ) → at.samples choices m r → IsValidList choices at.choice_limits) where
+  one_sample_text : (choices a b : List ℕ) → IsSampleText at.samples choices a → IsSampleText at.samples choices b → a ≡ b
   one_sample_text choices a b x y =
       let same = one choices x.map y.map x.residue y.residue x.sampled y.sampled in
       let map_text = one_text y.map x.is_text.map_text y.is_text.map_text (subst (λ (m : RotationSystem). IsMapText m x.is_text.map_text) same.0 x.is_text.is_map_text) y.is_text.is_map_text in
@@ -57,45 +58,30 @@ module _ (bounds : List ℕ) (samples : List ℕ → RotationSystem → List ℕ
   no_line : (bytes : List ℕ) (P : List ℕ → Type 0) (line : ℕ) → HasChoices bytes P → IsBrokenLine IsChoicesFile bytes line → ⊥
   no_line bytes P line x y = valid_has_no_broken_line IsChoicesFile bytes line (x.choices, x.spelled) y
 
-  not_refused : (bytes text : List ℕ) (refusal : ListRefusal) → HasChoices bytes (λ c. IsSampleText samples c text) → HasChoices bytes (λ c. IsRefusalOf c bounds refusal) → ⊥
-  not_refused bytes text refusal x y =
-      let same = one_choices bytes x.choices y.choices x.spelled y.spelled in
-      let h = subst (λ (c : List ℕ). IsSampleText samples c text) same x.holds in
-      valid_or_refused y.choices bounds refusal (valid y.choices h.map h.residue h.sampled) y.holds
+  same_choices : (bytes : List ℕ) (P Q : List ℕ → Type 0) (x : HasChoices bytes P) (y : HasChoices bytes Q) → P y.choices
+  same_choices bytes P Q x y = subst P (one_choices bytes x.choices y.choices x.spelled y.spelled) x.holds
 
-  pub samples_once : (bytes : List ℕ) (a b : Result (List ℕ) Refusal) → Samples bounds samples bytes a → Samples bounds samples bytes b → a ≡ b
-  samples_once bytes (Ok text) (Ok other) x y =
-      let same = one_choices bytes x.choices y.choices x.spelled y.spelled in
-      ap Ok (one_sample_text y.choices text other (subst (λ (c : List ℕ). IsSampleText samples c text) same x.holds) y.holds)
-  samples_once bytes (Ok text) (Err (Text line)) x y = absurd (no_line bytes (λ c. IsSampleText samples c text) line x y)
-  samples_once bytes (Ok text) (Err (Invalid refusal)) x y = absurd (not_refused bytes text refusal x y)
-  samples_once bytes (Ok text) (Err (Limited limit)) x y = absurd y
-  samples_once bytes (Ok text) (Err (Map broken)) x y = absurd y
-  samples_once bytes (Ok text) (Err (Tree broken)) x y = absurd y
-  samples_once bytes (Ok text) (Err (Usage matched)) x y = absurd y
-  samples_once bytes (Err (Text line)) (Ok text) x y = absurd (no_line bytes (λ c. IsSampleText samples c text) line y x)
-  samples_once bytes (Err (Text line)) (Err (Text other)) x y = ap (λ (l : ℕ). Err (Text l)) (broken_line_is_unique IsChoicesFile bytes line other x y)
-  samples_once bytes (Err (Text line)) (Err (Invalid refusal)) x y = absurd (no_line bytes (λ c. IsRefusalOf c bounds refusal) line y x)
-  samples_once bytes (Err (Text line)) (Err (Limited limit)) x y = absurd y
-  samples_once bytes (Err (Text line)) (Err (Map broken)) x y = absurd y
-  samples_once bytes (Err (Text line)) (Err (Tree broken)) x y = absurd y
-  samples_once bytes (Err (Text line)) (Err (Usage matched)) x y = absurd y
-  samples_once bytes (Err (Invalid refusal)) (Ok text) x y = absurd (not_refused bytes text refusal y x)
-  samples_once bytes (Err (Invalid refusal)) (Err (Text line)) x y = absurd (no_line bytes (λ c. IsRefusalOf c bounds refusal) line x y)
-  samples_once bytes (Err (Invalid refusal)) (Err (Invalid other)) x y =
-      let same = one_choices bytes x.choices y.choices x.spelled y.spelled in
-      ap (λ (r : ListRefusal). Err (Invalid r)) (one_list_refusal y.choices bounds refusal other (subst (λ (c : List ℕ). IsRefusalOf c bounds refusal) same x.holds) y.holds)
-  samples_once bytes (Err (Invalid refusal)) (Err (Limited limit)) x y = absurd y
-  samples_once bytes (Err (Invalid refusal)) (Err (Map broken)) x y = absurd y
-  samples_once bytes (Err (Invalid refusal)) (Err (Tree broken)) x y = absurd y
-  samples_once bytes (Err (Invalid refusal)) (Err (Usage matched)) x y = absurd y
-  samples_once bytes (Err (Limited limit)) b x y = absurd x
-  samples_once bytes (Err (Map broken)) b x y = absurd x
-  samples_once bytes (Err (Tree broken)) b x y = absurd x
-  samples_once bytes (Err (Usage matched)) b x y = absurd x
+  not_refused : (bytes text : List ℕ) (refusal : ListRefusal) → HasChoices bytes (λ c. IsSampleText at.samples c text) → HasChoices bytes (λ c. IsRefusalOf c at.choice_limits refusal) → ⊥
+  not_refused bytes text refusal x y =
+      let h = same_choices bytes (λ c. IsSampleText at.samples c text) (λ c. IsRefusalOf c at.choice_limits refusal) x y in
+      valid_or_refused y.choices at.choice_limits refusal (valid y.choices h.map h.residue h.sampled) y.holds
+
+  pub samples_once : (bytes : List ℕ) (a b : Result (List ℕ) Refusal) → Samples at bytes a → Samples at bytes b → a ≡ b
+  samples_once bytes _ _ (sampled text x) (sampled other y) =
+      ap Ok (one_sample_text y.choices text other (same_choices bytes (λ c. IsSampleText at.samples c text) (λ c. IsSampleText at.samples c other) x y) y.holds)
+  samples_once bytes _ _ (sampled text x) (no_list line y) = absurd (no_line bytes (λ c. IsSampleText at.samples c text) line x y)
+  samples_once bytes _ _ (sampled text x) (not_valid refusal y) = absurd (not_refused bytes text refusal x y)
+  samples_once bytes _ _ (no_list line x) (sampled text y) = absurd (no_line bytes (λ c. IsSampleText at.samples c text) line y x)
+  samples_once bytes _ _ (no_list line x) (no_list other y) = ap (λ (l : ℕ). Err (Text l)) (broken_line_is_unique IsChoicesFile bytes line other x y)
+  samples_once bytes _ _ (no_list line x) (not_valid refusal y) = absurd (no_line bytes (λ c. IsRefusalOf c at.choice_limits refusal) line y x)
+  samples_once bytes _ _ (not_valid refusal x) (sampled text y) = absurd (not_refused bytes text refusal y x)
+  samples_once bytes _ _ (not_valid refusal x) (no_list line y) = absurd (no_line bytes (λ c. IsRefusalOf c at.choice_limits refusal) line x y)
+  samples_once bytes _ _ (not_valid refusal x) (not_valid other y) =
+      ap (λ (r : ListRefusal). Err (Invalid r)) (one_list_refusal y.choices at.choice_limits refusal other
+      (same_choices bytes (λ c. IsRefusalOf c at.choice_limits refusal) (λ c. IsRefusalOf c at.choice_limits other) x y) y.holds)
 
   -- and drawing has one
-  pub draws_once : (seed count : ℕ) (a b : Result (List ℕ) Refusal) → Draws bounds samples seed count a → Draws bounds samples seed count b → a ≡ b
-  draws_once seed count (Ok text) (Ok other) x y = ap Ok (records_once bounds samples one_sample_text (words_of (generator_of seed)) count text other x y)
+  pub draws_once : (seed count : ℕ) (a b : Result (List ℕ) Refusal) → Draws at.choice_limits at.samples seed count a → Draws at.choice_limits at.samples seed count b → a ≡ b
+  draws_once seed count (Ok text) (Ok other) x y = ap Ok (records_once at.choice_limits at.samples one_sample_text (words_of (generator_of seed)) count text other x y)
   draws_once seed count (Ok text) (Err refusal) x y = absurd y
   draws_once seed count (Err refusal) b x y = absurd x

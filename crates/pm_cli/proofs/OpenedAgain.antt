@@ -11,23 +11,47 @@ use Rattle.pm_mapfile.proofs.ReadAgainLemmas.{map_file_is_read_again}
 use Rattle.pm_close.proofs.PlaneMap.{rooted_closure}
 use Rattle.pm_cli.specs.declared.refusal.Refusal.{Refusal}
 use Rattle.pm_cli.specs.Laws.{ClosedTreesOpen, OpenedMapsClose}
-use Rattle.pm_cli.specs.MapCommands.{HasMap, HasCanonicalText}
-use Rattle.pm_cli.specs.Opening.{HasOpenText, OpensEulerian, opened, no_map, no_dart, other_degree}
-use Rattle.pm_cli.proofs.OneMapAnswer.{one_map}
+use Rattle.pm_cli.specs.Closing.{ClosesTo, ClosesEulerian, closed, no_tree, matched}
+use Rattle.pm_cli.specs.MapAnswers.{HasMap, MapRelation, AnswersMap, told, no_map, breaks, HasCanonicalText, HasOpenText, Opens, opened, no_dart, other_degree, task_relation}
+use Rattle.pm_cli.specs.TreeFile.{HasWord}
+use Rattle.pm_cli.specs.declared.command.MapTask.TheVariants.{Canon, OpenEulerian}
+use Rattle.pm_map.specs.declared.class_refusal.ClassRefusal.{ClassRefusal}
+use Rattle.pm_cli.proofs.OneMapAnswer.{one_map, same_value}
+
+same_text : {a b : List ℕ} → ◌≡◌ {A = Result (List ℕ) Refusal} (Ok a) (Ok b) → a ≡ b
+same_text e = cc
+
+-- what is answered by a text to a map file, is told to its map
+pub told_map : (relation : MapRelation) (bytes text : List ℕ) (answer : Result (List ℕ) Refusal) → AnswersMap relation bytes answer → answer ≡ Ok text
+    → HasMap bytes relation.limit (λ m. relation.answers m (Ok text))
+told_map relation bytes text _ (told other h) e = subst (λ (t : List ℕ). HasMap bytes relation.limit (λ m. relation.answers m (Ok t))) (same_text e) h
+told_map relation bytes text _ (no_map refusal h) e = cc
+told_map relation bytes text _ (breaks refusal why rule h) e = cc
+
+open_text : (m : RotationSystem) (text : List ℕ) (answer : Result (List ℕ) ClassRefusal) → Opens m answer → answer ≡ Ok text → HasOpenText m text
+open_text m text _ (opened other h) e = subst (HasOpenText m) (same_value e) h
+open_text m text _ (no_dart h) e = cc
+open_text m text _ (other_degree dart h) e = cc
+
+closed_word : (bytes text : List ℕ) (answer : Result (List ℕ) Refusal) → ClosesEulerian bytes answer → answer ≡ Ok text → HasWord bytes (ClosesTo text)
+closed_word bytes text _ (closed other h) e = subst (λ (t : List ℕ). HasWord bytes (ClosesTo t)) (same_text e) h
+closed_word bytes text _ (no_tree refusal h) e = cc
+closed_word bytes text _ (matched bud h) e = cc
 
 -- the text of a closed tree is a map file, and its map opens to the tree
 pub opened_again : ClosedTreesOpen
-opened_again bytes text closes =
+opened_again bytes text is =
+    let closes = closed_word bytes text (Ok text) is refl in
     let closing = closes.holds in
     let rooted = rooted_closure closes.word closing.closed closing.blossoming closing.balanced closing.is_closed in
     let canonical = canonical_map_is_rooted closing.closed closing.canonical rooted closing.is_canonical in
-    opened bytes (record {
+    told bytes (record {
       residue = None;
       map = closing.canonical;
       answered =
           subst (λ (file : List ℕ). AnswersFile file MAX_EDGES None (Ok closing.canonical)) (append-nil text)
           (map_file_is_read_again closing.canonical MAX_EDGES text [] None canonical canonical.few closing.is_text (record { fit = tt; spelled = refl }));
-      holds = record {
+      holds = opened bytes (record {
         word = closes.word;
         opened = record {
           blossoming = closing.blossoming;
@@ -37,29 +61,21 @@ opened_again bytes text closes =
           same = same_symmetric (structure_of closing.closed) (structure_of closing.canonical) rooted.structure closing.is_canonical.is_same;
         };
         is_text = closes.spelled;
-      };
+      });
     })
-
-same_text : {a b : List ℕ} → ◌≡◌ {A = Result (List ℕ) Refusal} (Ok a) (Ok b) → a ≡ b
-same_text e = cc
-
-opened_map : (bytes text : List ℕ) (answer : Result (List ℕ) Refusal) → OpensEulerian bytes answer → answer ≡ Ok text → HasMap bytes MAX_EDGES (λ m. HasOpenText m text)
-opened_map bytes text _ (opened other h) e = subst (λ (t : List ℕ). HasMap bytes MAX_EDGES (λ m. HasOpenText m t)) (same_text e) h
-opened_map bytes text _ (no_map refusal h) e = cc
-opened_map bytes text _ (no_dart h) e = cc
-opened_map bytes text _ (other_degree dart h) e = cc
 
 -- the tree of an opened map closes to the same map, whose canonical map is that of the map
 pub closed_again : OpenedMapsClose
 closed_again bytes text canonical opens canonizes =
-    let x = opened_map bytes text (Ok text) opens refl in
-    let same = one_map MAX_EDGES (λ m. HasOpenText m text) (λ m. HasCanonicalText m canonical) bytes x canonizes in
-    let tree = subst (λ (m : RotationSystem). HasOpenText m text) same.0 x.holds in
-    let map : RotationSystem = canonizes.map in
+    let x = told_map (task_relation OpenEulerian) bytes text (Ok text) opens refl in
+    let y = told_map (task_relation Canon) bytes canonical (Ok canonical) canonizes refl in
+    let same = one_map MAX_EDGES (λ m. Opens m (Ok text)) (λ m. HasCanonicalText m canonical) bytes x y in
+    let tree = open_text y.map text (Ok text) (subst (λ (m : RotationSystem). Opens m (Ok text)) same.0 x.holds) refl in
+    let map : RotationSystem = y.map in
     let is = tree.opened in
-    let has = canonizes.holds in
+    let has = y.holds in
     let back = same_symmetric (structure_of map) (structure_of is.closure) same.1.structure is.same in
-    record {
+    closed canonical (record {
       word = tree.word;
       spelled = tree.is_text;
       holds = record {
@@ -74,4 +90,4 @@ closed_again bytes text canonical opens canonizes =
         };
         is_text = has.is_text;
       };
-    }
+    })

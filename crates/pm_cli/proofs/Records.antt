@@ -11,7 +11,7 @@ use Rattle.pm_map.specs.Rotation.{RotationSystem}
 use Rattle.pm_draw.specs.Drawn.{generator_of, words_of, drawn}
 use Rattle.pm_cli.specs.Sampling.{IsChoicesLine, IsTextOfSample, IsSampleText}
 use Rattle.pm_cli.specs.Drawing.{IsRecord, left_after, AreRecords, IsDrawing, HasFirstRecords, RecordsGoOn}
-use Rattle.pm_cli.specs.Ending.{HasAddedFront, HasAddedFirst}
+use Rattle.pm_cli.specs.steps.Streams.{HasAddedFront, HasAddedFirst}
 use Rattle.pm_cli.proofs.ChoicesLines.{line_of}
 
 -- the line of the choices, and the text that they give

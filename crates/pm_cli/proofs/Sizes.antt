@@ -31,3 +31,7 @@ pub spelled_number : (word : List ℕ) (value n : ℕ) → IsNumber word value �
 spelled_number word value n number fits e =
     let spelled = (has_one_spelling word value).0 number in
     decimal_injective value n spelled.0 fits (sym spelled.1 ∙ e)
+
+-- the number of bytes that stand for a word
+pub seed_of : (bytes word : List ℕ) (value : ℕ) → bytes ≡ word → IsNumber bytes value → (value < 2 ^ 64) × (word ≡ decimal value)
+seed_of bytes word value e number = let is = (has_one_spelling bytes value).0 number in (is.0, sym e ∙ is.1)

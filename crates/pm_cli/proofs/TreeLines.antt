@@ -1,6 +1,13 @@
 -- Tree files are files of one line, and spell one word.
 use Rattle.std.proofs.Common.{◌≡◌, ◌≢◌, ℕ, zero, suc, ◌<◌, ◌≤◌, Bool, true, false, List, [], ◌∷◌, ◌++◌, length, get_or, take, refl, sym, ap, ◌∙◌, subst, length-append, arith}
-use Rattle.std.specs.Prelude.{codes, IsTrue}
+use Rattle.std.specs.Prelude.{codes, IsTrue, if◌then◌else◌, Some, Err}
+use Rattle.pm_trees.specs.declared.tree.TreeRefusal.{TreeRefusal}
+use Rattle.pm_trees.specs.Reading.{IsAnswer}
+use Rattle.pm_cli.specs.declared.refusal.Refusal.{Refusal}
+use Rattle.pm_cli.specs.declared.refusal.Refusal.TheVariants.{Text}
+use Rattle.pm_cli.specs.declared.refusal.Stop.{Stop}
+use Rattle.pm_cli.specs.declared.refusal.Stop.TheVariants.{Refused}
+use Rattle.pm_cli.specs.steps.Answering.{StopsBy}
 use Rattle.std.proofs.lemmas.List.{append_cancel_left, append_cancel_right}
 use Rattle.std.proofs.lemmas.List.Elements.{All-get_or, All-from_get_or, All-nil, All-cons}
 use Rattle.pm_text.specs.Broken.{newline, HasNoNewline, IsOneLineForm, IsBrokenLine}
@@ -12,7 +19,8 @@ use Rattle.pm_trees.specs.First.{IsFirst}
 use Rattle.pm_trees.specs.Word.{IsInOrder, IsFault, is_letter, count, contour}
 use Rattle.pm_trees.proofs.Stack.{no_fault}
 use Rattle.pm_trees.proofs.Tally.{letter_cases, a_leaf, a_bud, an_open, a_close}
-use Rattle.pm_cli.specs.TreeFile.{IsTreeFile, IsTreeLineOf}
+use Rattle.pm_cli.specs.TreeFile.{IsTreeFile, rule_of_word, RefusesTreeFile, broken, no_tree}
+use Rattle.pm_cli.specs.steps.TreeFile.{IsTreeLineOf}
 
 -- a letter is no newline
 letter_no_newline : (x : ℕ) → IsTrue (is_letter x) → x ≢ newline
@@ -111,3 +119,10 @@ tagged_tree_line bytes text word new after ended alone e next some is last more 
 -- a word with a fault in its text isn't in order
 pub faulty_word : (word : List ℕ) (place : ℕ) → IsFirst (IsFault (contour word)) place → IsInOrder word → ⊥
 faulty_word word place fault order = no_fault word place order fault.here
+
+-- a word in order that breaks a rule; where a line follows, that breaks the form of the file first
+pub ruled : (bytes word : List ℕ) (alone : Bool) (why : TreeRefusal) (refusal : Refusal) (stop : Stop) → IsTreeLineOf bytes word alone → IsInOrder word → IsAnswer word (Err why)
+    → rule_of_word why ≡ Some refusal → stop ≡ Refused (if alone then refusal else Text 2) → StopsBy (RefusesTreeFile bytes) stop
+ruled bytes word true why refusal stop line order answer rule is =
+    subst (StopsBy (RefusesTreeFile bytes)) (sym is) (no_tree refusal why rule (record { word = word; spelled = record { in_order = order; some = line.some; spelled = line.spelled refl }; holds = answer }))
+ruled bytes word false why refusal stop line order answer rule is = subst (StopsBy (RefusesTreeFile bytes)) (sym is) (broken 2 (line.followed refl order))

@@ -1,26 +1,71 @@
--- The commands, and the words that spell them.
-use Rattle.std.specs.Prelude.{◌≡◌, ℕ, suc, ◌<◌, ◌≤◌, ◌^◌, Bool, true, false, List, [], ◌∷◌, ◌++◌, length, take, codes, decimal, ⊤}
-use Rattle.pm_trees.specs.Pairs.{IsProfile}
-use Rattle.pm_euler.specs.Quartic.{IsQuarticSize}
+-- The words that spell a command.
+use Rattle.std.specs.Prelude.{◌≡◌, ℕ, ◌<◌, ◌≤◌, ◌^◌, List, [], ◌∷◌, length, take, codes, decimal, ⊤}
+use Rattle.pm_cli.specs.declared.class.Class.{Class}
+use Rattle.pm_cli.specs.declared.class.Class.TheVariants as class
+use Rattle.pm_cli.specs.declared.class.Size.{Size}
+use Rattle.pm_cli.specs.declared.class.Size.TheVariants as sizes
+use Rattle.pm_cli.specs.declared.command.Command.{Command}
+use Rattle.pm_cli.specs.declared.command.Command.TheVariants.{Reads, Makes}
+use Rattle.pm_cli.specs.declared.command.Reader.{Reader}
+use Rattle.pm_cli.specs.declared.command.Reader.TheVariants.{CloseEulerian, OfMap, Check, Unsample, Sample}
+use Rattle.pm_cli.specs.declared.command.MapTask.TheVariants.{Canon, CheckGeneral, OpenEulerian}
+use Rattle.pm_cli.specs.declared.command.Maker.{Maker}
+use Rattle.pm_cli.specs.declared.command.Maker.TheVariants.{Draw}
 use Rattle.pm_cli.specs.declared.words.TheConstants.{MAX_RECORDS}
-use Rattle.pm_cli.specs.declared.words.Command.{Command}
-use Rattle.pm_cli.specs.declared.words.Command.TheVariants.{CloseEulerian, OpenEulerian, Canon, CheckGeneral, CheckQuartic, CheckEulerian, SampleQuartic, SampleEulerian, UnsampleQuartic, UnsampleEulerian, DrawQuartic, DrawEulerian}
+use Rattle.pm_cli.specs.declared.words.Verb.{Verb}
+use Rattle.pm_cli.specs.declared.words.Verb.TheVariants as verb
+use Rattle.pm_cli.specs.Classes.{IsSize, class_of}
 use Rattle.pm_cli.specs.ProfileWord.{profile_text}
+
+abbrev pub verb_word : Verb → List ℕ
+verb_word verb.Close = codes "close"
+verb_word verb.Open = codes "open"
+verb_word verb.Canon = codes "canon"
+verb_word verb.Check = codes "check"
+verb_word verb.Sample = codes "sample"
+verb_word verb.Unsample = codes "unsample"
+verb_word verb.Draw = codes "draw"
+
+abbrev pub class_word : Class → List ℕ
+class_word class.Quartic = codes "quartic"
+class_word class.Eulerian = codes "eulerian"
+
+abbrev pub size_word : Size → List ℕ
+size_word (sizes.Quartic size) = decimal size
+size_word (sizes.Eulerian profile) = profile_text profile
+
+-- a class and a size of it, and then other words
+abbrev pub size_words : Size → List (List ℕ) → List (List ℕ)
+size_words size rest = class_word (class_of size) ∷ size_word size ∷ rest
+
+-- a seed and a count
+abbrev pub number_words : ℕ → ℕ → List (List ℕ)
+number_words seed count = decimal seed ∷ decimal count ∷ []
+
+-- what the first word of a command tells to do, and the words behind it
+abbrev pub verb_of : Command → Verb
+verb_of (Reads CloseEulerian) = verb.Close
+verb_of (Reads (OfMap Canon)) = verb.Canon
+verb_of (Reads (OfMap CheckGeneral)) = verb.Check
+verb_of (Reads (OfMap OpenEulerian)) = verb.Open
+verb_of (Reads (Check class)) = verb.Check
+verb_of (Reads (Unsample class)) = verb.Unsample
+verb_of (Reads (Sample size)) = verb.Sample
+verb_of (Makes (Draw seed count) size) = verb.Draw
+
+abbrev pub behind : Command → List (List ℕ)
+behind (Reads CloseEulerian) = codes "eulerian" ∷ []
+behind (Reads (OfMap Canon)) = []
+behind (Reads (OfMap CheckGeneral)) = codes "general" ∷ []
+behind (Reads (OfMap OpenEulerian)) = codes "eulerian" ∷ []
+behind (Reads (Check class)) = class_word class ∷ []
+behind (Reads (Unsample class)) = class_word class ∷ []
+behind (Reads (Sample size)) = size_words size []
+behind (Makes (Draw seed count) size) = size_words size (number_words seed count)
 
 -- the words of a command
 abbrev pub spelling : Command → List (List ℕ)
-spelling CloseEulerian = codes "close" ∷ codes "eulerian" ∷ []
-spelling OpenEulerian = codes "open" ∷ codes "eulerian" ∷ []
-spelling Canon = codes "canon" ∷ []
-spelling CheckGeneral = codes "check" ∷ codes "general" ∷ []
-spelling CheckQuartic = codes "check" ∷ codes "quartic" ∷ []
-spelling CheckEulerian = codes "check" ∷ codes "eulerian" ∷ []
-spelling (SampleQuartic size) = codes "sample" ∷ codes "quartic" ∷ decimal size ∷ []
-spelling (SampleEulerian profile) = codes "sample" ∷ codes "eulerian" ∷ profile_text profile ∷ []
-spelling UnsampleQuartic = codes "unsample" ∷ codes "quartic" ∷ []
-spelling UnsampleEulerian = codes "unsample" ∷ codes "eulerian" ∷ []
-spelling (DrawQuartic size seed count) = codes "draw" ∷ codes "quartic" ∷ decimal size ∷ decimal seed ∷ decimal count ∷ []
-spelling (DrawEulerian profile seed count) = codes "draw" ∷ codes "eulerian" ∷ profile_text profile ∷ decimal seed ∷ decimal count ∷ []
+spelling command = verb_word (verb_of command) ∷ behind command
 
 -- a seed, and how many records are drawn from it
 pub record AreDrawNumbers (seed count : ℕ) : Type 0 where
@@ -29,54 +74,24 @@ pub record AreDrawNumbers (seed count : ℕ) : Type 0 where
   pub few : count ≤ MAX_RECORDS
 
 -- a command with a size is one where the class has maps of that size
+abbrev pub IsReader : Reader → Type 0
+IsReader (Sample size) = IsSize size
+IsReader CloseEulerian = ⊤
+IsReader (OfMap task) = ⊤
+IsReader (Check class) = ⊤
+IsReader (Unsample class) = ⊤
+
+abbrev pub IsMaker : Maker → Type 0
+IsMaker (Draw seed count) = AreDrawNumbers seed count
+
 abbrev pub IsCommand : Command → Type 0
-IsCommand (SampleQuartic size) = IsQuarticSize size
-IsCommand (SampleEulerian profile) = IsProfile profile
-IsCommand (DrawQuartic size seed count) = IsQuarticSize size × AreDrawNumbers seed count
-IsCommand (DrawEulerian profile seed count) = IsProfile profile × AreDrawNumbers seed count
-IsCommand CloseEulerian = ⊤
-IsCommand OpenEulerian = ⊤
-IsCommand Canon = ⊤
-IsCommand CheckGeneral = ⊤
-IsCommand CheckQuartic = ⊤
-IsCommand CheckEulerian = ⊤
-IsCommand UnsampleQuartic = ⊤
-IsCommand UnsampleEulerian = ⊤
+IsCommand (Reads reader) = IsReader reader
+IsCommand (Makes task size) = IsMaker task × IsSize size
 
 -- the words are those of the command
 pub record Spells (words : List (List ℕ)) (command : Command) : Type 0 where
   pub is_command : IsCommand command
   pub same : words ≡ spelling command
-
--- whether the command reads its input
-abbrev pub reads : Command → Bool
-reads CloseEulerian = true
-reads OpenEulerian = true
-reads Canon = true
-reads CheckGeneral = true
-reads CheckQuartic = true
-reads CheckEulerian = true
-reads (SampleQuartic size) = true
-reads (SampleEulerian profile) = true
-reads UnsampleQuartic = true
-reads UnsampleEulerian = true
-reads (DrawQuartic size seed count) = false
-reads (DrawEulerian profile seed count) = false
-
--- whether the command writes its answer record by record, and not in one piece
-abbrev pub writes_records : Command → Bool
-writes_records CloseEulerian = false
-writes_records OpenEulerian = false
-writes_records Canon = false
-writes_records CheckGeneral = false
-writes_records CheckQuartic = false
-writes_records CheckEulerian = false
-writes_records (SampleQuartic size) = false
-writes_records (SampleEulerian profile) = false
-writes_records UnsampleQuartic = false
-writes_records UnsampleEulerian = false
-writes_records (DrawQuartic size seed count) = true
-writes_records (DrawEulerian profile seed count) = true
 
 -- the first k words begin the words of some command
 pub record Begins (words : List (List ℕ)) (k : ℕ) : Type 0 where
@@ -90,22 +105,3 @@ pub record IsNoCommand (words : List (List ℕ)) (k : ℕ) : Type 0 where
   pub none : (command : Command) → Spells words command → ⊥
   pub begins : Begins words k
   pub greatest : (j : ℕ) → Begins words j → j ≤ k
-
--- the first three words, and then a seed and a count
-abbrev pub with_numbers : List (List ℕ) → ℕ → ℕ → List (List ℕ)
-with_numbers words seed count = take 3 words ++ decimal seed ∷ decimal count ∷ []
-
--- the words are three, a seed and a count
-pub record HasNumbers (words : List (List ℕ)) (seed count : ℕ) : Type 0 where
-  pub numbers : AreDrawNumbers seed count
-  pub same : words ≡ with_numbers words seed count
-
--- the words aren't three, a seed and a count; the first k begin such words, and no more do
-pub record HasNoNumbers (words : List (List ℕ)) (k : ℕ) : Type 0 where
-  pub seed : ℕ
-  pub count : ℕ
-  pub numbers : AreDrawNumbers seed count
-  pub three : 3 ≤ k
-  pub within : k ≤ length words
-  pub same : take k words ≡ take k (with_numbers words seed count)
-  pub no_more : (s c : ℕ) → AreDrawNumbers s c → take (suc k) words ≡ take (suc k) (with_numbers words s c) → ⊥

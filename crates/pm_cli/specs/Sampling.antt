@@ -2,11 +2,13 @@
 use Rattle.std.specs.Prelude.{◌≡◌, ℕ, List, [], ◌∷◌, ◌++◌, Result, Ok, Err, codes}
 use Rattle.pm_text.specs.Broken.{newline, IsBrokenLine}
 use Rattle.pm_lists.specs.ListLine.{AreWords, list_line}
+use Rattle.pm_lists.specs.declared.check.ListRefusal.{ListRefusal}
 use Rattle.pm_lists.specs.Refusal.{IsRefusalOf}
 use Rattle.pm_map.specs.Rotation.{RotationSystem}
 use Rattle.pm_mapfile.specs.MapText.{IsMapText}
 use Rattle.pm_cli.specs.declared.refusal.Refusal.{Refusal}
-use Rattle.pm_cli.specs.declared.refusal.Refusal.TheVariants.{Usage, Text, Limited, Map, Tree, Invalid}
+use Rattle.pm_cli.specs.declared.refusal.Refusal.TheVariants.{Text, Invalid}
+use Rattle.pm_cli.specs.Classes.{AtSize}
 
 -- the file that spells the choices: one line, `choices` and numbers of 64 bits
 pub record IsChoicesLine (choices bytes : List ℕ) : Type 0 where
@@ -37,11 +39,7 @@ pub record IsSampleText (samples : List ℕ → RotationSystem → List ℕ → 
   pub is_text : IsTextOfSample map residue text
 
 -- the answer: the map and the residue that the choices give, or the first rule that the file breaks
-abbrev pub Samples : List ℕ → (List ℕ → RotationSystem → List ℕ → Type 0) → List ℕ → Result (List ℕ) Refusal → Type 0
-Samples bounds samples bytes (Ok text) = HasChoices bytes (λ choices. IsSampleText samples choices text)
-Samples bounds samples bytes (Err (Text line)) = IsBrokenLine IsChoicesFile bytes line
-Samples bounds samples bytes (Err (Invalid refusal)) = HasChoices bytes (λ choices. IsRefusalOf choices bounds refusal)
-Samples bounds samples bytes (Err (Limited limit)) = ⊥
-Samples bounds samples bytes (Err (Map rule)) = ⊥
-Samples bounds samples bytes (Err (Tree rule)) = ⊥
-Samples bounds samples bytes (Err (Usage matched)) = ⊥
+pub data Samples (at : AtSize) (bytes : List ℕ) : Result (List ℕ) Refusal → Type 0 where
+  sampled : (text : List ℕ) → HasChoices bytes (λ choices. IsSampleText at.samples choices text) → Samples at bytes (Ok text)
+  no_list : (line : ℕ) → IsBrokenLine IsChoicesFile bytes line → Samples at bytes (Err (Text line))
+  not_valid : (refusal : ListRefusal) → HasChoices bytes (λ choices. IsRefusalOf choices at.choice_limits refusal) → Samples at bytes (Err (Invalid refusal))

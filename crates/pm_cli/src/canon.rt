@@ -1,8 +1,8 @@
 ghost use Rattle.std.specs.Prelude.{◌≤◌, length, IfOk};
 ghost use Rattle.pm_io.specs.declared.TheConstants.{MAX_BYTES as limit};
-ghost use Rattle.pm_cli.specs.declared.words.Command.TheVariants.{Canon};
-ghost use Rattle.pm_cli.specs.Answering.{IsAnswerOf};
-ghost use Rattle.pm_cli.specs.MapCommands.{HasCanonicalText};
+ghost use Rattle.pm_cli.specs.declared.command.MapTask.TheVariants.{Canon};
+ghost use Rattle.pm_cli.specs.MapAnswers.{AnswersMap, HasCanonicalText, task_relation};
+ghost use Rattle.pm_cli.specs.steps.Answering.{IsAnswerBy};
 
 use crate::map_file::map_of_file;
 use crate::refusal::Stop;
@@ -23,14 +23,8 @@ pub(crate) fn canonical_text(alloc: Global, map: &RootedMap) -> Result<Vec<u8>, 
 // `canon`: the text of the canonical map of the map in the file.
 pub(crate) fn canonize(alloc: Global, bytes: &[u8]) -> Result<Vec<u8>, Stop>
     requires { length bytes.now ≤ limit }
-    ensures { IsAnswerOf Canon bytes.now result }
+    ensures { IsAnswerBy (AnswersMap (task_relation Canon) bytes.now) result }
 {
-    let map = match map_of_file(alloc, bytes, MAX_EDGES) {
-        Ok(map) => map,
-        Err(stop) => return Err(stop),
-    };
-    match canonical_text(alloc, &map) {
-        Ok(text) => Ok(text),
-        Err(_) => Err(Stop::Memory),
-    }
+    let map = map_of_file(alloc, bytes, MAX_EDGES)?;
+    Ok(canonical_text(alloc, &map)?)
 }

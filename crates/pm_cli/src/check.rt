@@ -1,15 +1,15 @@
 ghost use Rattle.std.specs.Prelude.{◌≤◌, length, IfOk};
 ghost use Rattle.pm_io.specs.declared.TheConstants.{MAX_BYTES as limit};
-ghost use Rattle.pm_cli.specs.declared.words.Command.TheVariants.{CheckGeneral};
-ghost use Rattle.pm_cli.specs.Answering.{IsAnswerBy, IsAnswerOf};
-ghost use Rattle.pm_cli.specs.MapCommands.{IsCountsText, ChecksClass};
-ghost use Rattle.pm_cli.specs.MapReading.{IsStopOfClass};
+ghost use Rattle.pm_limits.specs.declared.TheConstants.{MAX_EDGES};
+ghost use Rattle.pm_cli.specs.declared.command.MapTask.TheVariants.{CheckGeneral};
+ghost use Rattle.pm_cli.specs.MapAnswers.{AnswersMap, CountsIn, IsCountsText, task_relation};
+ghost use Rattle.pm_cli.specs.steps.Answering.{IsAnswerBy};
 
 use crate::map_file::map_of_file;
-use crate::refusal::{Limit, MapRule, Refusal, Stop};
+use crate::refusal::Stop;
 use pm_class::MapClass;
 use pm_limits::MAX_EDGES;
-use pm_map::{ClassRefusal, RootedMap};
+use pm_map::RootedMap;
 use pm_text::put_number;
 use std::alloc::{AllocError, Global};
 
@@ -33,53 +33,26 @@ fn counts_text(alloc: Global, map: &RootedMap) -> Result<Vec<u8>, AllocError>
 // `check general`: how many vertices, edges and faces the map in the file has.
 pub(crate) fn check_general(alloc: Global, bytes: &[u8]) -> Result<Vec<u8>, Stop>
     requires { length bytes.now ≤ limit }
-    ensures { IsAnswerOf CheckGeneral bytes.now result }
+    ensures { IsAnswerBy (AnswersMap (task_relation CheckGeneral) bytes.now) result }
 {
-    let map = match map_of_file(alloc, bytes, MAX_EDGES / 2) {
-        Ok(map) => map,
-        Err(stop) => return Err(stop),
-    };
-    match counts_text(alloc, &map) {
-        Ok(text) => Ok(text),
-        Err(_) => Err(Stop::Memory),
-    }
-}
-
-// How a run stops where the map isn't of the class.
-pub(crate) fn stop_of_class(refusal: ClassRefusal) -> Stop
-    ensures { IsStopOfClass refusal result }
-{
-    let rule = match refusal {
-        ClassRefusal::Memory => return Stop::Memory,
-        ClassRefusal::TooMany { edges } => {
-            return Stop::Refused(Refusal::Limited(Limit::Edges { edges }));
-        }
-        ClassRefusal::Empty => MapRule::Empty,
-        ClassRefusal::Vertex { dart } => MapRule::Vertex { dart },
-        ClassRefusal::Face { dart } => MapRule::Face { dart },
-        ClassRefusal::Loop { dart } => MapRule::Loop { dart },
-        ClassRefusal::Double { dart } => MapRule::Double { dart },
-    };
-    Stop::Refused(Refusal::Map(rule))
+    let map = map_of_file(alloc, bytes, MAX_EDGES / 2)?;
+    Ok(counts_text(alloc, &map)?)
 }
 
 // `check CLASS`: the same of a map of the class.
-pub(crate) fn check_class<C: MapClass>(alloc: Global, bytes: &[u8]) -> Result<Vec<u8>, Stop>
-where
-    C::Size: Drop,
-    requires { length bytes.now ≤ limit }
-    ensures { IsAnswerBy (ChecksClass C.answers bytes.now) result }
+pub(crate) fn check_class<C: MapClass>(
+    alloc: Global,
+    bytes: &[u8],
+    most_edges: u32,
+) -> Result<Vec<u8>, Stop>
+    requires bytes { length bytes.now ≤ limit }
+    requires most { most_edges ≤ MAX_EDGES }
+    ensures { IsAnswerBy (AnswersMap (record { limit = most_edges; answers = CountsIn C.answers }) bytes.now) result }
 {
-    let map = match map_of_file(alloc, bytes, MAX_EDGES) {
-        Ok(map) => map,
-        Err(stop) => return Err(stop),
-    };
+    let map = map_of_file(alloc, bytes, most_edges)?;
     match C::size_of(alloc, &map) {
         Ok(_size) => {}
-        Err(refusal) => return Err(stop_of_class(refusal)),
+        Err(refusal) => return Err(Stop::from(refusal)),
     }
-    match counts_text(alloc, &map) {
-        Ok(text) => Ok(text),
-        Err(_) => Err(Stop::Memory),
-    }
+    Ok(counts_text(alloc, &map)?)
 }

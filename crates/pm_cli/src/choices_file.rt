@@ -2,7 +2,7 @@ ghost use Rattle.std.specs.Prelude.{◌≡◌, ◌≤◌, length, IfOk, MatchOpt
 ghost use Rattle.pm_io.specs.declared.TheConstants.{MAX_BYTES as limit};
 ghost use Rattle.pm_text.specs.Broken.{IsBrokenLine};
 ghost use Rattle.pm_cli.specs.Sampling.{IsChoicesFile, IsChoicesLine};
-ghost use Rattle.pm_cli.specs.ChoicesFile.{IsOnlyLine, IsChoicesAnswer};
+ghost use Rattle.pm_cli.specs.steps.ChoicesFile.{IsOnlyLine, IsChoicesAnswer};
 
 use crate::refusal::{Refusal, Stop};
 use pm_lists::{ListTextRefusal, NumList, put_list, read_list};

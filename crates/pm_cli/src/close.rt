@@ -1,7 +1,7 @@
 ghost use Rattle.std.specs.Prelude.{◌≤◌, length};
 ghost use Rattle.pm_io.specs.declared.TheConstants.{MAX_BYTES as limit};
-ghost use Rattle.pm_cli.specs.declared.words.Command.TheVariants.{CloseEulerian};
-ghost use Rattle.pm_cli.specs.Answering.{IsAnswerOf};
+ghost use Rattle.pm_cli.specs.Closing.{ClosesEulerian};
+ghost use Rattle.pm_cli.specs.steps.Answering.{IsAnswerBy};
 
 use crate::canon::canonical_text;
 use crate::refusal::{Refusal, Stop, TreeRule};
@@ -12,12 +12,9 @@ use std::alloc::Global;
 // `close eulerian`: the text of the canonical map of the closure of the tree in the file.
 pub(crate) fn close_eulerian(alloc: Global, bytes: &[u8]) -> Result<Vec<u8>, Stop>
     requires { length bytes.now ≤ limit }
-    ensures { IsAnswerOf CloseEulerian bytes.now result }
+    ensures { IsAnswerBy (ClosesEulerian bytes.now) result }
 {
-    let tree = match read_tree_file(alloc, bytes) {
-        Ok(tree) => tree,
-        Err(stop) => return Err(stop),
-    };
+    let tree = read_tree_file(alloc, bytes)?;
     let closed = match close_tree(alloc, &tree) {
         Ok(closed) => closed,
         Err(CloseRefusal::Memory) => return Err(Stop::Memory),
@@ -25,8 +22,5 @@ pub(crate) fn close_eulerian(alloc: Global, bytes: &[u8]) -> Result<Vec<u8>, Sto
             return Err(Stop::Refused(Refusal::Tree(TreeRule::Matched { bud })));
         }
     };
-    match canonical_text(alloc, &closed.map) {
-        Ok(text) => Ok(text),
-        Err(_) => Err(Stop::Memory),
-    }
+    Ok(canonical_text(alloc, &closed.map)?)
 }

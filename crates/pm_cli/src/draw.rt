@@ -2,12 +2,18 @@ ghost use Rattle.std.specs.Prelude.{◌≡◌, IfOk, OnOk};
 ghost use Rattle.pm_lists.specs.Valid.{AreBounds};
 ghost use Rattle.pm_draw.specs.Drawn.{words_of, drawn};
 ghost use Rattle.pm_cli.specs.Drawing.{IsRecord, IsDrawing, HasFirstRecords, RecordsGoOn};
-ghost use Rattle.pm_cli.specs.Ending.{IsWritingRecords};
+ghost use Rattle.pm_cli.specs.Answer.{AnswersSize};
+ghost use Rattle.pm_cli.specs.Classes.{sized, IsSize};
+ghost use Rattle.pm_cli.specs.Ending.{IsFirstRecords};
+ghost use Rattle.pm_cli.specs.steps.Streams.{IsWritingRecords};
 
+use crate::class::Size;
+use crate::command::Maker;
 use crate::refusal::Stop;
 use crate::sample::sample_text;
+use pm_class::{MapClass, each_list_is_sampled};
 use pm_draw::{draw_list, rng_of};
-use pm_class::{MapClass, SampleRefusal, each_list_is_sampled};
+use pm_euler::{Eulerian, Quartic};
 use pm_io::{Failed, Sink};
 use pm_lists::{Bounds, put_list};
 use rand_pcg::Pcg64;
@@ -27,11 +33,7 @@ fn draw_record<C: MapClass>(
     ensures left { OnOk result (words_of rng.new ≡ (drawn bounds.now (words_of rng.old)).1) }
 {
     let choices = draw_list(alloc, rng, bounds)?;
-    let sample = match C::sample(alloc, size, choices.values()) {
-        Ok(sample) => sample,
-        Err(SampleRefusal::Memory) => return Err(AllocError),
-        Err(SampleRefusal::List(_)) => unreachable!(),
-    };
+    let sample = C::sample_valid(alloc, size, choices.values())?;
     let mut text = Vec::new(alloc);
     put_list(alloc, b"choices", &choices, &mut text)?;
     text.extend_from_slice(&sample_text(alloc, &sample)?)?;
@@ -51,7 +53,7 @@ fn records_go_on<C: MapClass>(size: &C::Size, limits: &[u64])
 
 // `draw CLASS SIZE SEED COUNT`: writes so many records, each made whole before its one write, and hands them on. One
 // generator, that of the seed, draws all the lists.
-pub(crate) fn draw<C: MapClass, O: Sink>(
+fn draw<C: MapClass, O: Sink>(
     alloc: Global,
     size: &C::Size,
     seed: u64,
@@ -82,5 +84,40 @@ pub(crate) fn draw<C: MapClass, O: Sink>(
     match out.flush() {
         Ok(()) => Ok(()),
         Err(Failed) => Err(Stop::Write),
+    }
+}
+
+// The same of any class.
+fn draw_sized<O: Sink>(
+    alloc: Global,
+    size: &Size,
+    seed: u64,
+    count: u64,
+    out: &mut O,
+) -> Result<(), Stop>
+    requires { IsSize size.now }
+    ensures { IsWritingRecords (IsDrawing (sized size.now).choice_limits (sized size.now).samples seed count)
+        (HasFirstRecords (sized size.now).choice_limits (sized size.now).samples seed count)
+        (O.holds out.old) (O.holds out.new) (O.faults out.old) (O.faults out.new) result }
+{
+    match size {
+        Size::Quartic(size) => draw::<Quartic, O>(alloc, size, seed, count, out),
+        Size::Eulerian(profile) => draw::<Eulerian, O>(alloc, profile, seed, count, out),
+    }
+}
+
+// Does a task with a size, and writes its records.
+pub(crate) fn make<O: Sink>(
+    alloc: Global,
+    task: &Maker,
+    size: &Size,
+    out: &mut O,
+) -> Result<(), Stop>
+    requires { IsSize size.now }
+    ensures { IsWritingRecords (λ text. AnswersSize task.now (sized size.now) (Ok text)) (IsFirstRecords task.now (sized size.now))
+        (O.holds out.old) (O.holds out.new) (O.faults out.old) (O.faults out.new) result }
+{
+    match task {
+        Maker::Draw { seed, count } => draw_sized(alloc, size, *seed, *count, out),
     }
 }

@@ -3,14 +3,14 @@ ghost use Rattle.std.specs.Result.{IsErrOf};
 ghost use Rattle.pm_io.specs.Bytes.{added};
 ghost use Rattle.pm_io.specs.Faults.{FaultsRose};
 ghost use Rattle.pm_cli.specs.declared.refusal.Stop.{Stop};
-ghost use Rattle.pm_cli.specs.Ending.{Ends, IsTold, IsToldFor, IsReading, IsWriting, HasNothingLeft, ReadInput, ReadNothing, WriteWhole};
+ghost use Rattle.pm_cli.specs.Ending.{Ends, IsTold, HasNothingLeft, ReadInput, ReadNothing, WriteWhole};
 ghost use Rattle.pm_cli.specs.Lines.{status_of, status_of_stop};
+ghost use Rattle.pm_cli.specs.steps.Streams.{IsReading, IsToldFor, IsWriting};
 
 use crate::answer::answer;
-use crate::draw::draw;
+use crate::command::Command;
+use crate::draw::make;
 use crate::refusal::{Limit, Refusal, Stop};
-use crate::words::Command;
-use pm_euler::{Eulerian, Quartic};
 use pm_io::{Failed, MAX_BYTES, ReadRefusal, Sink, Source, read_all};
 use std::alloc::Global;
 
@@ -67,25 +67,19 @@ fn perform<S: Source, O: Sink>(
         Err(_) => return Err(Stop::Memory),
     };
     match &command {
-        Command::DrawQuartic { size, seed, count } => {
-            return draw::<Quartic, O>(alloc, size, *seed, *count, out);
+        Command::Reads(reader) => {
+            let bytes = match read_input(alloc, input) {
+                Ok(bytes) => bytes,
+                Err(stop) => return Err(stop),
+            };
+            let text = match answer(alloc, reader, &bytes) {
+                Ok(text) => text,
+                Err(stop) => return Err(stop),
+            };
+            write_text(out, &text)
         }
-        Command::DrawEulerian {
-            profile,
-            seed,
-            count,
-        } => return draw::<Eulerian, O>(alloc, profile, *seed, *count, out),
-        _ => {}
+        Command::Makes { task, size } => make(alloc, task, size, out),
     }
-    let bytes = match read_input(alloc, input) {
-        Ok(bytes) => bytes,
-        Err(stop) => return Err(stop),
-    };
-    let text = match answer(alloc, &command, &bytes) {
-        Ok(text) => text,
-        Err(stop) => return Err(stop),
-    };
-    write_text(out, &text)
 }
 
 // Tells why a run stopped, by a line; where there is no memory for the line of a refusal, that is what it tells.

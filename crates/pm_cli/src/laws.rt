@@ -1,11 +1,34 @@
 //! Laws of the answer.
-ghost use Rattle.pm_cli.specs.Laws.{HasOneAnswer, ClosedTreesOpen, OpenedMapsClose, UnsampledQuarticPairsReturn, UnsampledEulerianPairsReturn};
+ghost use Rattle.pm_cli.specs.steps.ClassLaws.{IsSampler};
+ghost use Rattle.pm_cli.specs.Laws.{HasOneAnswer, ClosedTreesOpen, OpenedMapsClose, UnsampledPairsReturn};
+
+use pm_class::MapClass;
+use pm_euler::{Eulerian, Quartic};
+
+// The laws of a class, as one bundle.
+fn law<C: MapClass>()
+    ensures { IsSampler (record {
+      Measure = C.Size;
+      most_edges = C.MOST_EDGES;
+      is_size = C.is_size;
+      choice_limits = C.choice_limits;
+      residue_limits = C.residue_limits;
+      has = C.has;
+      answers = C.answers;
+      samples = C.samples;
+    }) }
+{
+    C::is_one_to_one();
+}
 
 /// A law: words and bytes have one answer and no other, so that each refusal comes exactly where its rule is the first
 /// that is broken.
 pub fn words_and_bytes_have_one_answer()
     ensures { HasOneAnswer }
-{}
+{
+    law::<Quartic>();
+    law::<Eulerian>();
+}
 
 /// A law: `open eulerian` gives back the file that `close eulerian` answered, and `close eulerian` the canonical map of the
 /// map that `open eulerian` answered.
@@ -14,9 +37,11 @@ pub fn opening_undoes_closing()
     ensures closed { OpenedMapsClose }
 {}
 
-/// A law: of the file that `unsample` answered, `sample` for some size gives back the canonical map of the map file, as
+/// A law: of the file that `unsample` answered for a class, `sample` for some size of it gives back the canonical map of the map file, as
 /// `canon` answers it, and its residue line.
 pub fn sampling_undoes_unsampling()
-    ensures quartic { UnsampledQuarticPairsReturn }
-    ensures eulerian { UnsampledEulerianPairsReturn }
-{}
+    ensures { UnsampledPairsReturn }
+{
+    law::<Quartic>();
+    law::<Eulerian>();
+}

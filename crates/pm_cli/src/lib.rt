@@ -5,7 +5,9 @@ mod answer;
 mod canon;
 mod check;
 mod choices_file;
+mod class;
 mod close;
+mod command;
 mod draw;
 mod engine;
 mod laws;
@@ -14,16 +16,19 @@ mod open;
 mod profile_word;
 mod refusal;
 mod sample;
+mod stops;
 mod tree_file;
 mod unsample;
 mod words;
 
+pub use class::{Class, Size};
+pub use command::{Command, Maker, MapTask, Reader};
 pub use engine::run;
 pub use laws::{
     opening_undoes_closing, sampling_undoes_unsampling, words_and_bytes_have_one_answer,
 };
 pub use refusal::{Limit, MapRule, Refusal, Stop, TreeRule};
-pub use words::{Command, MAX_RECORDS};
+pub use words::{MAX_RECORDS, Verb};
 
 #[cfg(test)]
 mod limit_tests;

@@ -1,32 +1,13 @@
 ghost use Rattle.std.specs.Prelude.{◌≤◌, length};
 ghost use Rattle.pm_io.specs.declared.TheConstants.{MAX_BYTES as byte_limit};
 ghost use Rattle.pm_limits.specs.declared.TheConstants.{MAX_EDGES};
-ghost use Rattle.pm_cli.specs.MapReading.{IsMapOfFile, IsPairOfFile, IsStopOf};
+ghost use Rattle.pm_cli.specs.steps.MapReading.{IsMapOfFile, IsPairOfFile};
 
-use crate::refusal::{Limit, MapRule, Refusal, Stop};
+use crate::refusal::Stop;
 use pm_lists::NumList;
-use pm_map::{MapRefusal, RootedMap};
-use pm_mapfile::{FileRefusal, read_map_file, read_sample_file};
+use pm_map::RootedMap;
+use pm_mapfile::{read_map_file, read_sample_file};
 use std::alloc::Global;
-
-// How a run stops where the lines of a map file make no map.
-fn stop_of(refusal: MapRefusal) -> Stop
-    ensures { IsStopOf refusal result }
-{
-    match refusal {
-        MapRefusal::Memory => Stop::Memory,
-        MapRefusal::TooMany { edges } => Stop::Refused(Refusal::Limited(Limit::Edges { edges })),
-        MapRefusal::NotPermutation { dart } => {
-            Stop::Refused(Refusal::Map(MapRule::Permutation { dart }))
-        }
-        MapRefusal::NotConnected { dart } => {
-            Stop::Refused(Refusal::Map(MapRule::Connected { dart }))
-        }
-        MapRefusal::Genus { euler } => {
-            Stop::Refused(Refusal::Map(MapRule::Euler { number: euler }))
-        }
-    }
-}
 
 // The map of a map file that has at most so many edges.
 pub(crate) fn map_of_file(alloc: Global, bytes: &[u8], limit: u32) -> Result<RootedMap, Stop>
@@ -36,9 +17,7 @@ pub(crate) fn map_of_file(alloc: Global, bytes: &[u8], limit: u32) -> Result<Roo
 {
     match read_map_file(alloc, bytes, limit) {
         Ok((map, _residue)) => Ok(map),
-        Err(FileRefusal::Memory) => Err(Stop::Memory),
-        Err(FileRefusal::Text { line }) => Err(Stop::Refused(Refusal::Text { line })),
-        Err(FileRefusal::Map(refusal)) => Err(stop_of(refusal)),
+        Err(refusal) => Err(Stop::from(refusal)),
     }
 }
 
@@ -54,8 +33,6 @@ pub(crate) fn pair_of_file(
 {
     match read_sample_file(alloc, bytes, limit) {
         Ok(pair) => Ok(pair),
-        Err(FileRefusal::Memory) => Err(Stop::Memory),
-        Err(FileRefusal::Text { line }) => Err(Stop::Refused(Refusal::Text { line })),
-        Err(FileRefusal::Map(refusal)) => Err(stop_of(refusal)),
+        Err(refusal) => Err(Stop::from(refusal)),
     }
 }

@@ -1,7 +1,8 @@
 ghost use Rattle.std.specs.Prelude.{◌≤◌, length};
 ghost use Rattle.pm_io.specs.declared.TheConstants.{MAX_BYTES as limit};
-ghost use Rattle.pm_cli.specs.declared.words.Command.TheVariants.{OpenEulerian};
-ghost use Rattle.pm_cli.specs.Answering.{IsAnswerOf};
+ghost use Rattle.pm_cli.specs.declared.command.MapTask.TheVariants.{OpenEulerian};
+ghost use Rattle.pm_cli.specs.MapAnswers.{AnswersMap, task_relation};
+ghost use Rattle.pm_cli.specs.steps.Answering.{IsAnswerBy};
 
 use crate::map_file::map_of_file;
 use crate::refusal::{MapRule, Refusal, Stop};
@@ -13,12 +14,9 @@ use std::alloc::Global;
 // `open eulerian`: the tree file of the opening of the map in the file.
 pub(crate) fn open_eulerian(alloc: Global, bytes: &[u8]) -> Result<Vec<u8>, Stop>
     requires { length bytes.now ≤ limit }
-    ensures { IsAnswerOf OpenEulerian bytes.now result }
+    ensures { IsAnswerBy (AnswersMap (task_relation OpenEulerian) bytes.now) result }
 {
-    let map = match map_of_file(alloc, bytes, MAX_EDGES) {
-        Ok(map) => map,
-        Err(stop) => return Err(stop),
-    };
+    let map = map_of_file(alloc, bytes, MAX_EDGES)?;
     if map.sigma().is_empty() {
         return Err(Stop::Refused(Refusal::Map(MapRule::Empty)));
     }
@@ -29,8 +27,5 @@ pub(crate) fn open_eulerian(alloc: Global, bytes: &[u8]) -> Result<Vec<u8>, Stop
             return Err(Stop::Refused(Refusal::Map(MapRule::Vertex { dart })));
         }
     };
-    match tree_text(alloc, &tree) {
-        Ok(text) => Ok(text),
-        Err(_) => Err(Stop::Memory),
-    }
+    Ok(tree_text(alloc, &tree)?)
 }

@@ -77,17 +77,6 @@ pub enum Stop {
     Memory,
 }
 
-impl From<AllocError> for Stop {
-    ghost use Rattle.std.specs.Prelude.{◌≡◌};
-    ghost use Rattle.pm_cli.specs.declared.refusal.Stop.TheVariants.{Memory};
-
-    ghost from_gives = { λ _ stop. stop ≡ Memory };
-
-    fn from(_: AllocError) -> Stop {
-        Stop::Memory
-    }
-}
-
 impl Refusal {
     // The status that tells it.
     pub(crate) fn status(self) -> u8

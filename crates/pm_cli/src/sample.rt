@@ -1,6 +1,6 @@
 ghost use Rattle.std.specs.Prelude.{◌≤◌, length, IfOk};
 ghost use Rattle.pm_io.specs.declared.TheConstants.{MAX_BYTES as limit};
-ghost use Rattle.pm_cli.specs.Answering.{IsAnswerBy};
+ghost use Rattle.pm_cli.specs.steps.Answering.{IsAnswerBy};
 ghost use Rattle.pm_cli.specs.Sampling.{IsTextOfSample, Samples};
 
 use crate::choices_file::read_choices;
@@ -20,6 +20,7 @@ pub(crate) fn sample_text(alloc: Global, sample: &Sample) -> Result<Vec<u8>, All
 }
 
 // `sample CLASS SIZE`: the text of the map and the residue that the choices in the file give.
+#[tactic(auto, using(crate::specs::Sampling::sampled, crate::specs::Sampling::not_valid))]
 pub(crate) fn sample<C: MapClass>(
     alloc: Global,
     size: &C::Size,
@@ -27,12 +28,9 @@ pub(crate) fn sample<C: MapClass>(
 ) -> Result<Vec<u8>, Stop>
     requires bytes { length bytes.now ≤ limit }
     requires size { C.is_size size.now }
-    ensures { IsAnswerBy (Samples (C.choice_limits size.now) (C.samples size.now) bytes.now) result }
+    ensures { IsAnswerBy (Samples (record { is_size = C.is_size size.now; choice_limits = C.choice_limits size.now; samples = C.samples size.now }) bytes.now) result }
 {
-    let choices = match read_choices(alloc, bytes) {
-        Ok(choices) => choices,
-        Err(stop) => return Err(stop),
-    };
+    let choices = read_choices(alloc, bytes)?;
     let sample = match C::sample(alloc, size, choices.values()) {
         Ok(sample) => sample,
         Err(SampleRefusal::Memory) => return Err(Stop::Memory),
@@ -40,8 +38,5 @@ pub(crate) fn sample<C: MapClass>(
             return Err(Stop::Refused(Refusal::Invalid(refusal)));
         }
     };
-    match sample_text(alloc, &sample) {
-        Ok(text) => Ok(text),
-        Err(_) => Err(Stop::Memory),
-    }
+    Ok(sample_text(alloc, &sample)?)
 }

@@ -1,7 +1,10 @@
-ghost use Rattle.std.specs.Prelude.{◌≡◌, ℕ, ◌++◌, ◌<◌, ◌≤◌, List, length, codes, IfOk, MatchOption};
+ghost use Rattle.std.specs.Prelude.{◌≡◌, ℕ, ◌++◌, ◌<◌, ◌≤◌, List, length, codes, if◌then◌else◌, IfOk, MatchOption};
 ghost use Rattle.pm_io.specs.declared.TheConstants.{MAX_BYTES as limit};
 ghost use Rattle.pm_text.specs.Broken.{IsBrokenLine};
-ghost use Rattle.pm_cli.specs.TreeFile.{IsTreeFile, IsTreeLine, IsTreeLineOf, IsTreeFileAnswer};
+ghost use Rattle.pm_cli.specs.declared.refusal.Refusal.TheVariants.{Text};
+ghost use Rattle.pm_cli.specs.declared.refusal.Stop.TheVariants.{Refused};
+ghost use Rattle.pm_cli.specs.TreeFile.{IsTreeFile, IsTreeLine};
+ghost use Rattle.pm_cli.specs.steps.TreeFile.{IsTreeLineOf, IsTreeFileAnswer};
 
 use crate::refusal::{Limit, Refusal, Stop, TreeRule};
 use pm_text::Lines;
@@ -47,6 +50,17 @@ fn tree_line(bytes: &[u8]) -> Option<TreeLine<'_>>
     })
 }
 
+// How a run stops where a line breaks this rule, and a line that follows breaks the form of the file first.
+fn unless_followed(is_alone: bool, refusal: Refusal) -> Stop
+    ensures { result ≡ Refused (if is_alone then refusal else Text 2) }
+{
+    if is_alone {
+        Stop::Refused(refusal)
+    } else {
+        Stop::Refused(Refusal::Text { line: 2 })
+    }
+}
+
 /// Reads the tree of a tree file.
 pub(crate) fn read_tree_file(alloc: Global, bytes: &[u8]) -> Result<Tree, Stop>
     requires { length bytes.now ≤ limit }
@@ -55,23 +69,27 @@ pub(crate) fn read_tree_file(alloc: Global, bytes: &[u8]) -> Result<Tree, Stop>
     let Some(line) = tree_line(bytes) else {
         return Err(Stop::Refused(Refusal::Text { line: 1 }));
     };
-    let refusal = match read_tree(alloc, line.word) {
+    match read_tree(alloc, line.word) {
         Ok(tree) => {
             if line.is_alone {
                 return Ok(tree);
             }
-            return Err(Stop::Refused(Refusal::Text { line: 2 }));
+            Err(Stop::Refused(Refusal::Text { line: 2 }))
         }
-        Err(TreeRefusal::Memory) => return Err(Stop::Memory),
-        Err(TreeRefusal::Text { .. }) => return Err(Stop::Refused(Refusal::Text { line: 1 })),
-        Err(TreeRefusal::TooMany { letters }) => Refusal::Limited(Limit::Letters { letters }),
-        Err(TreeRefusal::Degree { place }) => Refusal::Tree(TreeRule::Degree { place }),
-        Err(TreeRefusal::Buds { place }) => Refusal::Tree(TreeRule::Buds { place }),
-    };
-    if line.is_alone {
-        Err(Stop::Refused(refusal))
-    } else {
-        Err(Stop::Refused(Refusal::Text { line: 2 }))
+        Err(TreeRefusal::Memory) => Err(Stop::Memory),
+        Err(TreeRefusal::Text { .. }) => Err(Stop::Refused(Refusal::Text { line: 1 })),
+        Err(TreeRefusal::TooMany { letters }) => Err(unless_followed(
+            line.is_alone,
+            Refusal::Limited(Limit::Letters { letters }),
+        )),
+        Err(TreeRefusal::Degree { place }) => Err(unless_followed(
+            line.is_alone,
+            Refusal::Tree(TreeRule::Degree { place }),
+        )),
+        Err(TreeRefusal::Buds { place }) => Err(unless_followed(
+            line.is_alone,
+            Refusal::Tree(TreeRule::Buds { place }),
+        )),
     }
 }
 

@@ -1,19 +1,94 @@
-ghost use Rattle.std.specs.Prelude.{◌≡◌, ◌≢◌, ◌<◌, ◌≤◌, ◌↔◌, ℕ, decimal, string_bytes, IsTrue, MatchOption, MatchResult};
+//! Which words are a command.
+ghost use Rattle.std.specs.Prelude.{◌≡◌, ◌≢◌, ◌<◌, ◌≤◌, ◌^◌, ◌↔◌, ℕ, [], ◌∷◌, codes, map, decimal, string_bytes, IsTrue, IfOk, MatchOption, MatchResult};
 ghost use Rattle.pm_euler.specs.Quartic.{IsQuarticSize};
 ghost use Rattle.pm_cli.specs.declared.words.TheConstants.{MAX_RECORDS};
+ghost use Rattle.pm_cli.specs.declared.class.Class.{Class};
+ghost use Rattle.pm_cli.specs.declared.class.Size.{Size};
+ghost use Rattle.pm_cli.specs.declared.command.Command.{Command};
+ghost use Rattle.pm_cli.specs.declared.command.Command.TheVariants.{Reads};
+ghost use Rattle.pm_cli.specs.declared.words.Verb.{Verb};
+ghost use Rattle.pm_cli.specs.declared.words.Verb.TheVariants.{Close, Check, Sample, Draw};
+ghost use Rattle.pm_cli.specs.declared.command.Reader.{Reader};
+ghost use Rattle.pm_cli.specs.Classes.{class_of, IsSize};
+ghost use Rattle.pm_cli.specs.Commands.{verb_word, class_word, size_word, size_words, IsCommand, Spells, IsNoCommand, AreDrawNumbers, number_words};
+ghost use Rattle.pm_cli.specs.steps.Words.{StopsAt, IsOneOf, IsClassWord, IsCheckedWord, AreSizeWords, AreNumberWords, AreDrawWords, AreBehind, IsBehind};
 
+use crate::class::{Class, Size};
+use crate::command::{Command, Maker, MapTask, Reader};
 use crate::profile_word::read_profile;
 use pm_class::MapClass;
 use pm_euler::Quartic;
 use pm_text::number;
-use pm_trees::Profile;
 use std::alloc::{AllocError, Global};
+
+/// The greatest number of records that one command draws.
+pub const MAX_RECORDS: u64 = 1000;
+
+// The number is part of the program's manual: another one is refused here.
+const _: () = prove!(MAX_RECORDS == 1_000);
+
+/// What the first word of a command tells to do.
+#[derive(Clone, Copy)]
+pub enum Verb {
+    Close,
+    Open,
+    Canon,
+    Check,
+    Sample,
+    Unsample,
+    Draw,
+}
 
 // Whether the word is this text.
 fn is_word(word: &String, text: &str) -> bool
     ensures { IsTrue result ↔ (string_bytes word.now ≡ text.now) }
 {
     word.as_str() == text
+}
+
+impl Verb {
+    // The verb that the word is, where it is one.
+    fn of_word(word: &String) -> Option<Verb>
+        ensures { MatchOption result ((verb : Verb) → string_bytes word.now ≢ verb_word verb) (λ verb. string_bytes word.now ≡ verb_word verb) }
+    {
+        if is_word(word, "close") {
+            return Some(Verb::Close);
+        }
+        if is_word(word, "open") {
+            return Some(Verb::Open);
+        }
+        if is_word(word, "canon") {
+            return Some(Verb::Canon);
+        }
+        if is_word(word, "check") {
+            return Some(Verb::Check);
+        }
+        if is_word(word, "sample") {
+            return Some(Verb::Sample);
+        }
+        if is_word(word, "unsample") {
+            return Some(Verb::Unsample);
+        }
+        if is_word(word, "draw") {
+            return Some(Verb::Draw);
+        }
+        None
+    }
+}
+
+impl Class {
+    // The class that the word is, where it is one.
+    fn of_word(word: &String) -> Option<Class>
+        ensures { MatchOption result ((class : Class) → string_bytes word.now ≢ class_word class) (λ class. string_bytes word.now ≡ class_word class) }
+    {
+        if is_word(word, "quartic") {
+            return Some(Class::Quartic);
+        }
+        if is_word(word, "eulerian") {
+            return Some(Class::Eulerian);
+        }
+        None
+    }
 }
 
 // The size of quartic maps that the word spells, where there is one.
@@ -35,11 +110,25 @@ fn quartic_size(word: &String) -> Option<u32>
     }
 }
 
-/// The greatest number of records that one command draws.
-pub const MAX_RECORDS: u64 = 1000;
-
-// The number is part of the program's manual: another one is refused here.
-const _: () = prove!(MAX_RECORDS == 1_000);
+impl Size {
+    // The size of the class that the word spells, where there is one.
+    fn of_word(alloc: Global, class: Class, word: &String) -> Result<Option<Size>, AllocError>
+        ensures { IfOk result (λ found. MatchOption found
+            ((size : Size) → class_of size ≡ class → IsSize size → string_bytes word.now ≢ size_word size)
+            (λ size. (class_of size ≡ class) × IsSize size × (string_bytes word.now ≡ size_word size))) }
+    {
+        match class {
+            Class::Quartic => match quartic_size(word) {
+                Some(size) => Ok(Some(Size::Quartic(size))),
+                None => Ok(None),
+            },
+            Class::Eulerian => match read_profile(alloc, word.as_str())? {
+                Some(profile) => Ok(Some(Size::Eulerian(profile))),
+                None => Ok(None),
+            },
+        }
+    }
+}
 
 // The count of records that the word spells, where there is one.
 fn record_count(word: &String) -> Option<u64>
@@ -57,50 +146,184 @@ fn record_count(word: &String) -> Option<u64>
     }
 }
 
-/// A command.
+// A class and a size of it at the front of the words, and the words behind them.
 #[derive(Drop)]
-pub enum Command {
-    /// `close eulerian`: closes a blossoming tree.
-    CloseEulerian,
-    /// `open eulerian`: opens a map whose vertices have even degrees.
-    OpenEulerian,
-    /// `canon`: answers the canonical map of a map.
-    Canon,
-    /// `check general`: counts the vertices, edges and faces of a map.
-    CheckGeneral,
-    /// `check quartic`: the same of a map whose vertices have degree 4.
-    CheckQuartic,
-    /// `check eulerian`: the same of a map whose vertices have even degrees.
-    CheckEulerian,
-    /// `sample quartic SIZE`: answers the quartic map and the residue of a list of choices.
-    SampleQuartic {
-        size: u32,
-    },
-    /// `sample eulerian SIZE`: the same of a map whose vertices have the degrees of the profile.
-    SampleEulerian {
-        profile: Profile,
-    },
-    /// `unsample quartic`: answers the choices of a quartic map and a residue.
-    UnsampleQuartic,
-    /// `unsample eulerian`: the same of a map whose vertices have even degrees.
-    UnsampleEulerian,
-    /// `draw quartic SIZE SEED COUNT`: draws lists of choices and answers each with its quartic map and residue.
-    DrawQuartic {
-        size: u32,
-        seed: u64,
-        count: u64,
-    },
-    /// `draw eulerian SIZE SEED COUNT`: the same of maps whose vertices have the degrees of the profile.
-    DrawEulerian {
-        profile: Profile,
-        seed: u64,
-        count: u64,
-    },
+struct Sized<'a> {
+    size: Size,
+    rest: &'a [String],
+}
+
+// Reads a class and a size of it, or says how many words begin them.
+fn read_size(alloc: Global, words: &[String]) -> Result<Result<Sized<'_>, u32>, AllocError>
+    ensures { IfOk result (λ found. MatchResult found
+        (λ read. IsSize read.size × (map string_bytes words.now ≡ size_words read.size (map string_bytes read.rest.now)))
+        (λ k. (k < 2) × StopsAt AreSizeWords (map string_bytes words.now) k)) }
+{
+    let Some((first, behind)) = words.split_first() else {
+        return Ok(Err(0));
+    };
+    let Some(class) = Class::of_word(first) else {
+        return Ok(Err(0));
+    };
+    let Some((second, rest)) = behind.split_first() else {
+        return Ok(Err(1));
+    };
+    match Size::of_word(alloc, class, second)? {
+        Some(size) => Ok(Ok(Sized { size, rest })),
+        None => Ok(Err(1)),
+    }
+}
+
+// Reads a seed and a count, which are all the words, or says how many of them begin such words.
+fn read_numbers(words: &[String]) -> Result<(u64, u64), u32>
+    ensures { MatchResult result
+        (λ read. AreDrawNumbers read.0 read.1 × (map string_bytes words.now ≡ number_words read.0 read.1))
+        (λ k. (k < 3) × StopsAt AreNumberWords (map string_bytes words.now) k) }
+{
+    let Some((first, behind)) = words.split_first() else {
+        return Err(0);
+    };
+    let Some(seed) = number(first.as_bytes()) else {
+        return Err(0);
+    };
+    let Some((second, rest)) = behind.split_first() else {
+        return Err(1);
+    };
+    let Some(count) = record_count(second) else {
+        return Err(1);
+    };
+    if rest.is_empty() {
+        Ok((seed, count))
+    } else {
+        Err(2)
+    }
+}
+
+// Reads the one word `eulerian`, or says how many of the words begin it.
+fn eulerian_alone(words: &[String]) -> Result<(), u32>
+    ensures { MatchResult result (λ _. map string_bytes words.now ≡ codes "eulerian" ∷ [])
+        (λ k. (k < 2) × StopsAt (AreBehind Close) (map string_bytes words.now) k) }
+{
+    let Some((first, rest)) = words.split_first() else {
+        return Err(0);
+    };
+    if !is_word(first, "eulerian") {
+        return Err(0);
+    }
+    if rest.is_empty() { Ok(()) } else { Err(1) }
+}
+
+// Reads the one word of a class, or says how many of the words begin one.
+fn class_alone(words: &[String]) -> Result<Class, u32>
+    ensures { MatchResult result (λ class. map string_bytes words.now ≡ class_word class ∷ [])
+        (λ k. (k < 2) × StopsAt (IsOneOf IsClassWord) (map string_bytes words.now) k) }
+{
+    let Some((first, rest)) = words.split_first() else {
+        return Err(0);
+    };
+    let Some(class) = Class::of_word(first) else {
+        return Err(0);
+    };
+    if rest.is_empty() { Ok(class) } else { Err(1) }
+}
+
+// What is checked, by the one word `general` or that of a class, or how many of the words begin one.
+fn checked_alone(words: &[String]) -> Result<Reader, u32>
+    ensures { MatchResult result (λ reader. IsBehind Check (map string_bytes words.now) (Reads reader))
+        (λ k. (k < 2) × StopsAt (IsOneOf IsCheckedWord) (map string_bytes words.now) k) }
+{
+    let Some((first, rest)) = words.split_first() else {
+        return Err(0);
+    };
+    if is_word(first, "general") {
+        return if rest.is_empty() {
+            Ok(Reader::OfMap(MapTask::CheckGeneral))
+        } else {
+            Err(1)
+        };
+    }
+    let Some(class) = Class::of_word(first) else {
+        return Err(0);
+    };
+    if rest.is_empty() {
+        Ok(Reader::Check(class))
+    } else {
+        Err(1)
+    }
 }
 
 impl Command {
-    ghost use Rattle.std.specs.Prelude.{◌≡◌, [], ◌∷◌, length, take, codes, map, string_bytes, IfOk};
-    ghost use Rattle.pm_cli.specs.Commands.{spelling, IsCommand, Spells, IsNoCommand, HasNumbers, HasNoNumbers};
+    // The command whose words are a verb and these words behind it, or how many of them may stand there.
+    fn of_verb(
+        alloc: Global,
+        verb: Verb,
+        words: &[String],
+    ) -> Result<Result<Command, u32>, AllocError>
+        ensures { IfOk result (λ found. MatchResult found (IsBehind verb (map string_bytes words.now))
+            (λ k. (k < 5) × StopsAt (AreBehind verb) (map string_bytes words.now) k)) }
+    {
+        match verb {
+            Verb::Close => match eulerian_alone(words) {
+                Ok(()) => Ok(Ok(Command::Reads(Reader::CloseEulerian))),
+                Err(matched) => Ok(Err(matched)),
+            },
+            Verb::Open => match eulerian_alone(words) {
+                Ok(()) => Ok(Ok(Command::Reads(Reader::OfMap(MapTask::OpenEulerian)))),
+                Err(matched) => Ok(Err(matched)),
+            },
+            Verb::Canon => {
+                if words.is_empty() {
+                    Ok(Ok(Command::Reads(Reader::OfMap(MapTask::Canon))))
+                } else {
+                    Ok(Err(0))
+                }
+            }
+            Verb::Check => match checked_alone(words) {
+                Ok(reader) => Ok(Ok(Command::Reads(reader))),
+                Err(matched) => Ok(Err(matched)),
+            },
+            Verb::Unsample => match class_alone(words) {
+                Ok(class) => Ok(Ok(Command::Reads(Reader::Unsample(class)))),
+                Err(matched) => Ok(Err(matched)),
+            },
+            Verb::Sample => Command::of_sample(alloc, words),
+            Verb::Draw => Command::of_draw(alloc, words),
+        }
+    }
+
+    // The same behind `sample`.
+    fn of_sample(alloc: Global, words: &[String]) -> Result<Result<Command, u32>, AllocError>
+        ensures { IfOk result (λ found. MatchResult found (IsBehind Sample (map string_bytes words.now))
+            (λ k. (k < 5) × StopsAt AreSizeWords (map string_bytes words.now) k)) }
+    {
+        match read_size(alloc, words)? {
+            Ok(Sized { size, rest }) => {
+                if rest.is_empty() {
+                    Ok(Ok(Command::Reads(Reader::Sample(size))))
+                } else {
+                    Ok(Err(2))
+                }
+            }
+            Err(matched) => Ok(Err(matched)),
+        }
+    }
+
+    // The same behind `draw`.
+    fn of_draw(alloc: Global, words: &[String]) -> Result<Result<Command, u32>, AllocError>
+        ensures { IfOk result (λ found. MatchResult found (IsBehind Draw (map string_bytes words.now))
+            (λ k. (k < 5) × StopsAt AreDrawWords (map string_bytes words.now) k)) }
+    {
+        match read_size(alloc, words)? {
+            Ok(Sized { size, rest }) => match read_numbers(rest) {
+                Ok((seed, count)) => Ok(Ok(Command::Makes {
+                    task: Maker::Draw { seed, count },
+                    size,
+                })),
+                Err(matched) => Ok(Err(2 + matched)),
+            },
+            Err(matched) => Ok(Err(matched)),
+        }
+    }
 
     // The command that the words spell, or how many of them begin one.
     pub(crate) fn of_words(
@@ -109,239 +332,15 @@ impl Command {
     ) -> Result<Result<Command, u32>, AllocError>
         ensures { IfOk result (λ found. MatchResult found (Spells (map string_bytes words.now)) (IsNoCommand (map string_bytes words.now))) }
     {
-        if words.is_empty() {
+        let Some((first, behind)) = words.split_first() else {
             return Ok(Err(0));
-        }
-        if is_word(&words[0], "close") {
-            return Ok(Command::of_close(words));
-        }
-        if is_word(&words[0], "open") {
-            return Ok(Command::of_open(words));
-        }
-        if is_word(&words[0], "canon") {
-            return Ok(Command::of_canon(words));
-        }
-        if is_word(&words[0], "check") {
-            return Ok(Command::of_check(words));
-        }
-        if is_word(&words[0], "sample") {
-            return Command::of_sample(alloc, words);
-        }
-        if is_word(&words[0], "unsample") {
-            return Ok(Command::of_unsample(words));
-        }
-        if is_word(&words[0], "draw") {
-            return Command::of_draw(alloc, words);
-        }
-        Ok(Err(0))
-    }
-
-    // The command, which the first words spell, where they are all words, or that so many begin one.
-    fn unless_more(self, words: &[String], count: u32) -> Result<Command, u32>
-        requires command { IsCommand self }
-        requires count { length (spelling self) ≡ count }
-        requires spelled { take count (map string_bytes words.now) ≡ spelling self }
-        ensures { MatchResult result (Spells (map string_bytes words.now)) (IsNoCommand (map string_bytes words.now)) }
-    {
-        if words.len() > count as usize {
-            Err(count)
-        } else {
-            Ok(self)
-        }
-    }
-
-    // The command that words spell which begin with `close`, or how many of them begin one.
-    fn of_close(words: &[String]) -> Result<Command, u32>
-        requires { take 1 (map string_bytes words.now) ≡ codes "close" ∷ [] }
-        ensures { MatchResult result (Spells (map string_bytes words.now)) (IsNoCommand (map string_bytes words.now)) }
-    {
-        if words.len() == 1 || !is_word(&words[1], "eulerian") {
-            return Err(1);
-        }
-        Command::CloseEulerian.unless_more(words, 2)
-    }
-
-    // The same of words that begin with `open`.
-    fn of_open(words: &[String]) -> Result<Command, u32>
-        requires { take 1 (map string_bytes words.now) ≡ codes "open" ∷ [] }
-        ensures { MatchResult result (Spells (map string_bytes words.now)) (IsNoCommand (map string_bytes words.now)) }
-    {
-        if words.len() == 1 || !is_word(&words[1], "eulerian") {
-            return Err(1);
-        }
-        Command::OpenEulerian.unless_more(words, 2)
-    }
-
-    // The same of words that begin with `canon`.
-    fn of_canon(words: &[String]) -> Result<Command, u32>
-        requires { take 1 (map string_bytes words.now) ≡ codes "canon" ∷ [] }
-        ensures { MatchResult result (Spells (map string_bytes words.now)) (IsNoCommand (map string_bytes words.now)) }
-    {
-        Command::Canon.unless_more(words, 1)
-    }
-
-    // The same of words that begin with `check`.
-    fn of_check(words: &[String]) -> Result<Command, u32>
-        requires { take 1 (map string_bytes words.now) ≡ codes "check" ∷ [] }
-        ensures { MatchResult result (Spells (map string_bytes words.now)) (IsNoCommand (map string_bytes words.now)) }
-    {
-        if words.len() == 1 {
-            return Err(1);
-        }
-        if is_word(&words[1], "general") {
-            return Command::CheckGeneral.unless_more(words, 2);
-        }
-        if is_word(&words[1], "quartic") {
-            return Command::CheckQuartic.unless_more(words, 2);
-        }
-        if is_word(&words[1], "eulerian") {
-            return Command::CheckEulerian.unless_more(words, 2);
-        }
-        Err(1)
-    }
-
-    // The same of words that begin with `sample`.
-    fn of_sample(alloc: Global, words: &[String]) -> Result<Result<Command, u32>, AllocError>
-        requires { take 1 (map string_bytes words.now) ≡ codes "sample" ∷ [] }
-        ensures { IfOk result (λ found. MatchResult found (Spells (map string_bytes words.now)) (IsNoCommand (map string_bytes words.now))) }
-    {
-        if words.len() == 1 {
-            return Ok(Err(1));
-        }
-        if is_word(&words[1], "quartic") {
-            return Ok(Command::of_sample_quartic(words));
-        }
-        if is_word(&words[1], "eulerian") {
-            return Command::of_sample_eulerian(alloc, words);
-        }
-        Ok(Err(1))
-    }
-
-    // The same of words that begin with `sample quartic`.
-    fn of_sample_quartic(words: &[String]) -> Result<Command, u32>
-        requires { take 2 (map string_bytes words.now) ≡ codes "sample" ∷ codes "quartic" ∷ [] }
-        ensures { MatchResult result (Spells (map string_bytes words.now)) (IsNoCommand (map string_bytes words.now)) }
-    {
-        if words.len() == 2 {
-            return Err(2);
-        }
-        let Some(size) = quartic_size(&words[2]) else {
-            return Err(2);
         };
-        Command::SampleQuartic { size }.unless_more(words, 3)
-    }
-
-    // The same of words that begin with `sample eulerian`.
-    fn of_sample_eulerian(
-        alloc: Global,
-        words: &[String],
-    ) -> Result<Result<Command, u32>, AllocError>
-        requires { take 2 (map string_bytes words.now) ≡ codes "sample" ∷ codes "eulerian" ∷ [] }
-        ensures { IfOk result (λ found. MatchResult found (Spells (map string_bytes words.now)) (IsNoCommand (map string_bytes words.now))) }
-    {
-        if words.len() == 2 {
-            return Ok(Err(2));
-        }
-        let Some(profile) = read_profile(alloc, words[2].as_str())? else {
-            return Ok(Err(2));
+        let Some(verb) = Verb::of_word(first) else {
+            return Ok(Err(0));
         };
-        Ok(Command::SampleEulerian { profile }.unless_more(words, 3))
-    }
-
-    // The same of words that begin with `unsample`.
-    fn of_unsample(words: &[String]) -> Result<Command, u32>
-        requires { take 1 (map string_bytes words.now) ≡ codes "unsample" ∷ [] }
-        ensures { MatchResult result (Spells (map string_bytes words.now)) (IsNoCommand (map string_bytes words.now)) }
-    {
-        if words.len() == 1 {
-            return Err(1);
-        }
-        if is_word(&words[1], "quartic") {
-            return Command::UnsampleQuartic.unless_more(words, 2);
-        }
-        if is_word(&words[1], "eulerian") {
-            return Command::UnsampleEulerian.unless_more(words, 2);
-        }
-        Err(1)
-    }
-
-    // The same of words that begin with `draw`.
-    fn of_draw(alloc: Global, words: &[String]) -> Result<Result<Command, u32>, AllocError>
-        requires { take 1 (map string_bytes words.now) ≡ codes "draw" ∷ [] }
-        ensures { IfOk result (λ found. MatchResult found (Spells (map string_bytes words.now)) (IsNoCommand (map string_bytes words.now))) }
-    {
-        if words.len() == 1 {
-            return Ok(Err(1));
-        }
-        if is_word(&words[1], "quartic") {
-            return Ok(Command::of_draw_quartic(words));
-        }
-        if is_word(&words[1], "eulerian") {
-            return Command::of_draw_eulerian(alloc, words);
-        }
-        Ok(Err(1))
-    }
-
-    // The same of words that begin with `draw quartic`.
-    fn of_draw_quartic(words: &[String]) -> Result<Command, u32>
-        requires { take 2 (map string_bytes words.now) ≡ codes "draw" ∷ codes "quartic" ∷ [] }
-        ensures { MatchResult result (Spells (map string_bytes words.now)) (IsNoCommand (map string_bytes words.now)) }
-    {
-        if words.len() == 2 {
-            return Err(2);
-        }
-        let Some(size) = quartic_size(&words[2]) else {
-            return Err(2);
-        };
-        match Command::draw_numbers(words) {
-            Ok((seed, count)) => Ok(Command::DrawQuartic { size, seed, count }),
-            Err(matched) => Err(matched),
-        }
-    }
-
-    // The same of words that begin with `draw eulerian`.
-    fn of_draw_eulerian(alloc: Global, words: &[String]) -> Result<Result<Command, u32>, AllocError>
-        requires { take 2 (map string_bytes words.now) ≡ codes "draw" ∷ codes "eulerian" ∷ [] }
-        ensures { IfOk result (λ found. MatchResult found (Spells (map string_bytes words.now)) (IsNoCommand (map string_bytes words.now))) }
-    {
-        if words.len() == 2 {
-            return Ok(Err(2));
-        }
-        let Some(profile) = read_profile(alloc, words[2].as_str())? else {
-            return Ok(Err(2));
-        };
-        match Command::draw_numbers(words) {
-            Ok((seed, count)) => Ok(Ok(Command::DrawEulerian {
-                profile,
-                seed,
-                count,
-            })),
-            Err(matched) => Ok(Err(matched)),
-        }
-    }
-
-    // The seed and the count that stand behind three words and end them, or how many words begin such words.
-    fn draw_numbers(words: &[String]) -> Result<(u64, u64), u32>
-        requires { 3 ≤ length words.now }
-        ensures { MatchResult result (λ numbers. HasNumbers (map string_bytes words.now) numbers.0 numbers.1)
-            (HasNoNumbers (map string_bytes words.now)) }
-    {
-        if words.len() == 3 {
-            return Err(3);
-        }
-        let Some(seed) = number(words[3].as_bytes()) else {
-            return Err(3);
-        };
-        if words.len() == 4 {
-            return Err(4);
-        }
-        let Some(count) = record_count(&words[4]) else {
-            return Err(4);
-        };
-        if words.len() == 5 {
-            Ok((seed, count))
-        } else {
-            Err(5)
+        match Command::of_verb(alloc, verb, behind)? {
+            Ok(command) => Ok(Ok(command)),
+            Err(matched) => Ok(Err(1 + matched)),
         }
     }
 }

@@ -1,9 +1,10 @@
-use Rattle.pm_cli.specs.MapCommands.{Canonizes}
-use Rattle.pm_cli.proofs.MapFiles.{refused}
+use Rattle.pm_cli.specs.MapAnswers.{AnswersMap, told, no_map, task_relation}
+use Rattle.pm_cli.specs.declared.command.MapTask.TheVariants.{Canon}
+use Rattle.pm_cli.proofs.Refusals.{passed_on}
 use Rattle.pm_cli.proofs.canon.canonize.Goals as goal
 
-pub returns-in-Err : goal.returns-in-Err
-returns-in-Err c = refused (Canonizes c.args.bytes.now) _ (λ refusal h. h) c.in-Err.stop c.in-Err.ensures
+pub returns-in_err-map : goal.returns-in_err-map
+returns-in_err-map c = passed_on (AnswersMap (task_relation Canon) c.args.bytes.now) _ (λ refusal h. no_map refusal h) c.in_err-map.field-0.0 _ c.in_err-map.ensures c.from_residual.ensures.1
 
-pub returns-in-Ok-canonical_text : goal.returns-in-Ok-canonical_text
-returns-in-Ok-canonical_text c = record { residue = c.in-Ok.ensures.0; map = c.in-Ok.map; answered = c.in-Ok.ensures.1; holds = c.in-Ok-canonical_text.ensures }
+pub returns : goal.returns
+returns c = told _ (record { residue = c.in_ok-map.ensures.0; map = c.in_ok-map.map; answered = c.in_ok-map.ensures.1; holds = c.in_ok-canonical_text.ensures })

@@ -1,21 +1,18 @@
-use Rattle.pm_cli.specs.MapCommands.{ChecksClass, counted, no_map, not_in_class}
-use Rattle.pm_cli.proofs.MapFiles.{refused, class_stopped}
+use Rattle.std.proofs.Common.{◌≡◌}
+use Rattle.std.specs.Prelude.{Some, Err}
+use Rattle.pm_cli.specs.MapAnswers.{rule_of_class, AnswersMap, told, no_map, breaks, CountsIn}
+use Rattle.pm_cli.proofs.Refusals.{stopped, passed_on}
 use Rattle.pm_cli.proofs.check.check_class.Goals as goal
 
+pub returns-in_err-map : goal.returns-in_err-map
+returns-in_err-map g c =
+    passed_on (AnswersMap (record { limit = c.args.most_edges; answers = CountsIn g.C.MapClass.answers }) c.args.bytes.now) _ (λ refusal h. no_map refusal h) c.in_err-map.field-0.0 _
+    c.in_err-map.ensures c.from_residual.ensures.1
+
 pub returns-in-Err : goal.returns-in-Err
-returns-in-Err g c = refused (ChecksClass g.C.MapClass.answers c.args.bytes.now) _ (λ refusal h. no_map refusal h) c.in-Err.stop c.in-Err.ensures
+returns-in-Err g c =
+    stopped (λ refusal. rule_of_class c.in-Err.refusal ≡ Some refusal) (λ refusal. AnswersMap (record { limit = c.args.most_edges; answers = CountsIn g.C.MapClass.answers }) c.args.bytes.now (Err refusal))
+    (λ refusal rule. breaks refusal c.in-Err.refusal rule (record { residue = c.in_ok-map.ensures.0; map = c.in_ok-map.map; answered = c.in_ok-map.ensures.1; holds = c.in-Err.ensures })) c.from.result c.from.ensures
 
-pub returns-in-Err-size_of : goal.returns-in-Err-size_of
-returns-in-Err-size_of g c =
-    class_stopped (ChecksClass g.C.MapClass.answers c.args.bytes.now) c.in-Err-size_of.refusal
-    (λ refusal rule. not_in_class refusal c.in-Err-size_of.refusal rule (record { residue = c.in-Ok.ensures.0; map = c.in-Ok.map; answered = c.in-Ok.ensures.1; holds = c.in-Err-size_of.ensures }))
-    c.stop_of_class.result c.stop_of_class.ensures
-
-pub returns-in-Ok-counts_text : goal.returns-in-Ok-counts_text
-returns-in-Ok-counts_text g c =
-    counted _ (record {
-      residue = c.in-Ok.ensures.0;
-      map = c.in-Ok.map;
-      answered = c.in-Ok.ensures.1;
-      holds = record { size = c.in-Ok-size_of._size; is_member = c.in-Ok-size_of.ensures; is_text = c.in-Ok-counts_text.ensures };
-    })
+pub returns : goal.returns
+returns g c = told _ (record { residue = c.in_ok-map.ensures.0; map = c.in_ok-map.map; answered = c.in_ok-map.ensures.1; holds = ((c.in-Ok._size, c.in-Ok.ensures), c.in_ok-counts_text.ensures) })

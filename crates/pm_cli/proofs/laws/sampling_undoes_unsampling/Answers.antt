@@ -1,8 +1,5 @@
-use Rattle.pm_cli.proofs.SampledAgain.{quartic_sampled_again, eulerian_sampled_again}
+use Rattle.pm_cli.proofs.SampledAgain.{sampled_again}
 use Rattle.pm_cli.proofs.laws.sampling_undoes_unsampling.Goals as goal
 
-pub returns-clause-quartic : goal.returns-clause-quartic
-returns-clause-quartic c = quartic_sampled_again
-
-pub returns-clause-eulerian : goal.returns-clause-eulerian
-returns-clause-eulerian c = eulerian_sampled_again
+pub returns : goal.returns
+returns c = sampled_again (record { quartic = c.law.ensures; eulerian = c.law-2.ensures })

@@ -1,15 +1,13 @@
+use Rattle.std.proofs.Common.{◌≡◌, ℕ, List}
+use Rattle.std.specs.Prelude.{Some}
+use Rattle.pm_mapfile.specs.Answers.{AnswersFile}
 use Rattle.pm_mapfile.specs.MapFile.{IsSampleFile}
-use Rattle.pm_cli.specs.Unsampling.{MakesNoPair}
-use Rattle.pm_cli.proofs.MapFiles.{stopped}
+use Rattle.pm_cli.specs.Unsampling.{RefusesSampleFile}
+use Rattle.pm_cli.specs.steps.MapReading.{rule_of_file}
+use Rattle.pm_cli.proofs.Refusals.{stopped, file_refused}
 use Rattle.pm_cli.proofs.map_file.pair_of_file.Goals as goal
 
-pub returns-in-Err-Memory : goal.returns-in-Err-Memory
-returns-in-Err-Memory c = tt
-
-pub returns-in-Err-Text : goal.returns-in-Err-Text
-returns-in-Err-Text c = rw c.in-Err-Text.field-0-is at c.in-Err-Text.ensures
-
-pub returns-in-Err-Map : goal.returns-in-Err-Map
-returns-in-Err-Map c =
-    let answer = rw c.in-Err-Map.field-0-is at c.in-Err-Map.ensures in
-    stopped IsSampleFile (MakesNoPair c.args.bytes.now c.args.limit) c.args.bytes.now c.in-Err-Map.refusal c.stop_of.result answer.0 c.stop_of.ensures
+pub returns-in-Err : goal.returns-in-Err
+returns-in-Err c =
+    stopped (λ refusal. rule_of_file c.in-Err.refusal ≡ Some refusal) (RefusesSampleFile c.args.limit c.args.bytes.now)
+    (file_refused IsSampleFile (λ (residue : List ℕ). AnswersFile c.args.bytes.now c.args.limit (Some residue)) c.args.bytes.now c.in-Err.refusal c.in-Err.ensures) c.from.result c.from.ensures

@@ -1,0 +1,43 @@
+-- What refuses a file, passed on.
+use Rattle.std.proofs.Common.{◌≡◌, ℕ, List, sym, subst}
+use Rattle.std.specs.Prelude.{None, Some, Result, Ok, Err, Vec}
+use Rattle.std.specs.Result.{IsErrAnd}
+use Rattle.std.specs.declared.alloc.Global.{Global}
+use Rattle.pm_map.specs.declared.refusal.MapRefusal.{MapRefusal}
+use Rattle.pm_map.specs.declared.rooted_map.RootedMap.{RootedMap}
+use Rattle.pm_mapfile.specs.Answers.{IsAnswerOfForm}
+use Rattle.pm_mapfile.specs.declared.refusal.FileRefusal.{FileRefusal}
+use Rattle.pm_mapfile.specs.declared.refusal.FileRefusal.TheVariants as reading
+use Rattle.pm_cli.specs.declared.refusal.Refusal.{Refusal}
+use Rattle.pm_cli.specs.declared.refusal.Stop.{Stop}
+use Rattle.pm_cli.specs.declared.refusal.Stop.TheVariants.{Refused, Read, Write, Memory}
+use Rattle.pm_cli.specs.MapAnswers.{RefusesFile, broken, makes_none}
+use Rattle.pm_cli.specs.steps.Answering.{StopsBy, IsAnswerBy}
+use Rattle.pm_cli.specs.steps.MapReading.{rule_of_file}
+
+-- a refusal of one kind is one of another
+pub stopped : (refuses other : Refusal → Type 0) → ((refusal : Refusal) → refuses refusal → other refusal) → (stop : Stop) → StopsBy refuses stop → StopsBy other stop
+stopped refuses other same (Refused refusal) h = same refusal h
+stopped refuses other same Memory h = tt
+stopped refuses other same Read h = absurd h
+stopped refuses other same Write h = absurd h
+
+-- the same of the answer that a `?` passes on
+pub passed_on : (answers : Result (List ℕ) Refusal → Type 0) (refuses : Refusal → Type 0) → ((refusal : Refusal) → refuses refusal → answers (Err refusal))
+    → (stop : Stop) (result : Result (Vec ℕ Global) Stop) → StopsBy refuses stop → IsErrAnd result (λ s. s ≡ stop) → IsAnswerBy answers result
+passed_on answers refuses same stop (Ok text) h is = absurd is
+passed_on answers refuses same stop (Err other) h is =
+    subst (StopsBy (λ refusal. answers (Err refusal))) (sym is) (stopped refuses (λ refusal. answers (Err refusal)) same stop h)
+
+no_rule : {refusal : Refusal} → None ≡ Some refusal → ⊥
+no_rule e = cc
+
+some_same : {a b : Refusal} → Some a ≡ Some b → a ≡ b
+some_same e = cc
+
+-- the rule for which a file of a form is refused
+pub file_refused : {Read : Type 0} (form : List ℕ → Type 0) (reads : Read → Result RootedMap MapRefusal → Type 0) (bytes : List ℕ) (why : FileRefusal)
+    → IsAnswerOfForm form reads bytes (Err why) → (refusal : Refusal) → rule_of_file why ≡ Some refusal → RefusesFile form (λ made. (read : Read) × reads read (Err made)) bytes refusal
+file_refused {Read} form reads bytes (reading.Text line) h refusal rule = subst (RefusesFile form (λ made. (read : Read) × reads read (Err made)) bytes) (some_same rule) (broken line h)
+file_refused form reads bytes (reading.Map made) h refusal rule = makes_none refusal made rule h.0
+file_refused form reads bytes reading.Memory h refusal rule = absurd (no_rule rule)

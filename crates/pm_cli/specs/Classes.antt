@@ -1,0 +1,88 @@
+-- The classes of maps, as bundles of what each says of sizes, maps and lists.
+use Rattle.std.specs.Prelude.{ℕ, List, Result}
+use Rattle.pm_limits.specs.declared.TheConstants.{MAX_EDGES}
+use Rattle.pm_trees.specs.Pairs.{IsProfile}
+use Rattle.pm_map.specs.declared.class_refusal.ClassRefusal.{ClassRefusal}
+use Rattle.pm_map.specs.ClassRules.{IsQuarticAnswer}
+use Rattle.pm_map.specs.Classes.{IsQuartic, IsEulerian}
+use Rattle.pm_map.specs.Rotation.{RotationSystem, structure_of}
+use Rattle.pm_class.specs.declared.sample.UnsampleRefusal.{UnsampleRefusal}
+use Rattle.pm_class.specs.Unsampling.{IsUnsampling}
+use Rattle.pm_euler.specs.Bounds.{quartic_choices, quartic_residues, eulerian_choices, eulerian_residues}
+use Rattle.pm_euler.specs.Eulerian.{IsEulerianAnswer, SamplesEulerian}
+use Rattle.pm_euler.specs.Quartic.{IsQuarticSize, SamplesQuartic}
+use Rattle.pm_cli.specs.declared.class.Class.{Class}
+use Rattle.pm_cli.specs.declared.class.Class.TheVariants as class
+use Rattle.pm_cli.specs.declared.class.Size.{Size}
+use Rattle.pm_cli.specs.declared.class.Size.TheVariants as sizes
+use Rattle.pm_cli.specs.MapAnswers.{CountsIn}
+
+-- a class: its sizes, the most edges, the bounds of choices and residues, its maps, what a map is answered, and what
+-- choices give
+pub record Sampler : Type 1 where
+  pub Measure : Type 0
+  pub most_edges : ℕ
+  pub is_size : Measure → Type 0
+  pub choice_limits : Measure → List ℕ
+  pub residue_limits : Measure → List ℕ
+  pub has : Measure → RotationSystem → Type 0
+  pub answers : RotationSystem → Result Measure ClassRefusal → Type 0
+  pub samples : Measure → List ℕ → RotationSystem → List ℕ → Type 0
+
+abbrev pub quartic_sampler : Sampler
+quartic_sampler = record {
+  Measure = ℕ;
+  most_edges = MAX_EDGES;
+  is_size = IsQuarticSize;
+  choice_limits = quartic_choices;
+  residue_limits = quartic_residues;
+  has = λ n m. IsQuartic (structure_of m) n;
+  answers = IsQuarticAnswer;
+  samples = SamplesQuartic;
+}
+
+abbrev pub eulerian_sampler : Sampler
+eulerian_sampler = record {
+  Measure = List (ℕ × ℕ);
+  most_edges = MAX_EDGES;
+  is_size = IsProfile;
+  choice_limits = eulerian_choices;
+  residue_limits = eulerian_residues;
+  has = λ pairs m. IsEulerian (structure_of m) pairs;
+  answers = IsEulerianAnswer;
+  samples = SamplesEulerian;
+}
+
+-- a class at one size
+pub record AtSize : Type 1 where
+  pub is_size : Type 0
+  pub choice_limits : List ℕ
+  pub samples : List ℕ → RotationSystem → List ℕ → Type 0
+
+abbrev pub at_size : (S : Sampler) → S.Measure → AtSize
+at_size S size = record { is_size = S.is_size size; choice_limits = S.choice_limits size; samples = S.samples size }
+
+abbrev pub sized : Size → AtSize
+sized (sizes.Quartic size) = at_size quartic_sampler size
+sized (sizes.Eulerian profile) = at_size eulerian_sampler profile
+
+-- the class has maps of the size
+abbrev pub IsSize : Size → Type 0
+IsSize size = (sized size).is_size
+
+abbrev pub class_of : Size → Class
+class_of (sizes.Quartic size) = class.Quartic
+class_of (sizes.Eulerian profile) = class.Eulerian
+
+-- a class at its maps: the most edges, what a map is told in place of its size, and what is unsampled of a map and a residue
+pub record InClass : Type 1 where
+  pub most_edges : ℕ
+  pub counts : RotationSystem → Result (List ℕ) ClassRefusal → Type 0
+  pub unsamples : RotationSystem → List ℕ → Result (List ℕ) UnsampleRefusal → Type 0
+
+abbrev pub in_class : Sampler → InClass
+in_class S = record { most_edges = S.most_edges; counts = CountsIn S.answers; unsamples = IsUnsampling S.choice_limits S.residue_limits S.samples S.answers }
+
+abbrev pub class_at : Class → InClass
+class_at class.Quartic = in_class quartic_sampler
+class_at class.Eulerian = in_class eulerian_sampler

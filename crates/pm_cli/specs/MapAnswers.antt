@@ -1,0 +1,114 @@
+-- What the commands from a map file to a text answer.
+use Rattle.std.specs.Prelude.{◌≡◌, ℕ, ◌/◌, List, [], ◌∷◌, ◌++◌, length, Option, None, Some, Result, Ok, Err, codes, decimal}
+use Rattle.pm_limits.specs.declared.TheConstants.{MAX_EDGES, MAX_DEGREE}
+use Rattle.pm_text.specs.Broken.{newline, IsBrokenLine}
+use Rattle.pm_map.specs.declared.admitted.Degrees.TheVariants.{EvenUpTo}
+use Rattle.pm_map.specs.declared.refusal.MapRefusal.{MapRefusal}
+use Rattle.pm_map.specs.declared.refusal.MapRefusal.TheVariants.{Memory as MemoryOfMap, TooMany, NotPermutation, NotConnected, Genus}
+use Rattle.pm_map.specs.declared.class_refusal.ClassRefusal.{ClassRefusal}
+use Rattle.pm_map.specs.declared.class_refusal.ClassRefusal.TheVariants as class
+use Rattle.pm_map.specs.Canonical.{IsCanonicalOf}
+use Rattle.pm_map.specs.ClassRules.{IsLeastOther}
+use Rattle.pm_map.specs.Plane.{vertices, edges, faces}
+use Rattle.pm_map.specs.Rotation.{RotationSystem, structure_of}
+use Rattle.pm_mapfile.specs.Answers.{AnswersFile}
+use Rattle.pm_mapfile.specs.MapFile.{IsMapFile}
+use Rattle.pm_mapfile.specs.MapText.{IsMapText}
+use Rattle.pm_open.specs.Opening.{IsOpening}
+use Rattle.pm_cli.specs.declared.command.MapTask.{MapTask}
+use Rattle.pm_cli.specs.declared.command.MapTask.TheVariants.{Canon, CheckGeneral, OpenEulerian}
+use Rattle.pm_cli.specs.declared.refusal.Limit.TheVariants.{Edges}
+use Rattle.pm_cli.specs.declared.refusal.MapRule.TheVariants.{Permutation, Connected, Euler, Empty, Vertex, Face, Loop, Double}
+use Rattle.pm_cli.specs.declared.refusal.Refusal.{Refusal}
+use Rattle.pm_cli.specs.declared.refusal.Refusal.TheVariants.{Text, Limited, Map}
+use Rattle.pm_cli.specs.TreeFile.{IsTreeLine}
+
+-- a map file with this property of its map, which has no more edges than the limit; its residue line isn't used
+pub record HasMap (bytes : List ℕ) (limit : ℕ) (P : RotationSystem → Type 0) : Type 0 where
+  pub residue : Option (List ℕ)
+  pub map : RotationSystem
+  pub answered : AnswersFile bytes limit residue (Ok map)
+  pub holds : P map
+
+-- a map file whose lines make no map within the limit, for this first reason
+abbrev pub MakesNoMap : List ℕ → ℕ → MapRefusal → Type 0
+MakesNoMap bytes limit why = (residue : Option (List ℕ)) × AnswersFile bytes limit residue (Err why)
+
+-- how it is told that lines make no map; want of memory is no rule
+abbrev pub rule_of_lines : MapRefusal → Option Refusal
+rule_of_lines MemoryOfMap = None
+rule_of_lines (TooMany edges) = Some (Limited (Edges edges))
+rule_of_lines (NotPermutation dart) = Some (Map (Permutation dart))
+rule_of_lines (NotConnected dart) = Some (Map (Connected dart))
+rule_of_lines (Genus euler) = Some (Map (Euler euler))
+
+-- how it is told that a map isn't of a class
+abbrev pub rule_of_class : ClassRefusal → Option Refusal
+rule_of_class class.Memory = None
+rule_of_class class.Empty = Some (Map Empty)
+rule_of_class (class.TooMany edges) = Some (Limited (Edges edges))
+rule_of_class (class.Vertex dart) = Some (Map (Vertex dart))
+rule_of_class (class.Face dart) = Some (Map (Face dart))
+rule_of_class (class.Loop dart) = Some (Map (Loop dart))
+rule_of_class (class.Double dart) = Some (Map (Double dart))
+
+-- the first rule that a file of a form breaks, by the reasons for which its lines make no map
+pub data RefusesFile (form : List ℕ → Type 0) (makes_no_map : MapRefusal → Type 0) (bytes : List ℕ) : Refusal → Type 0 where
+  broken : (line : ℕ) → IsBrokenLine form bytes line → RefusesFile form makes_no_map bytes (Text line)
+  makes_none : (refusal : Refusal) (why : MapRefusal) → rule_of_lines why ≡ Some refusal → makes_no_map why → RefusesFile form makes_no_map bytes refusal
+
+-- the first rule that a map file breaks
+abbrev pub RefusesMapFile : ℕ → List ℕ → Refusal → Type 0
+RefusesMapFile limit bytes refusal = RefusesFile IsMapFile (MakesNoMap bytes limit) bytes refusal
+
+-- what is answered to maps: a text, or a rule of maps; and to how many edges at most
+pub record MapRelation : Type 1 where
+  pub limit : ℕ
+  pub answers : RotationSystem → Result (List ℕ) ClassRefusal → Type 0
+
+-- what is answered to a map file: what is answered to its map, or the first rule that the file breaks
+pub data AnswersMap (relation : MapRelation) (bytes : List ℕ) : Result (List ℕ) Refusal → Type 0 where
+  told : (text : List ℕ) → HasMap bytes relation.limit (λ map. relation.answers map (Ok text)) → AnswersMap relation bytes (Ok text)
+  no_map : (refusal : Refusal) → RefusesMapFile relation.limit bytes refusal → AnswersMap relation bytes (Err refusal)
+  breaks : (refusal : Refusal) (why : ClassRefusal) → rule_of_class why ≡ Some refusal → HasMap bytes relation.limit (λ map. relation.answers map (Err why))
+      → AnswersMap relation bytes (Err refusal)
+
+-- each map is told a text of this kind
+abbrev pub Tells : (RotationSystem → List ℕ → Type 0) → RotationSystem → Result (List ℕ) ClassRefusal → Type 0
+Tells text_of map (Ok text) = text_of map text
+Tells text_of map (Err why) = ⊥
+
+-- the text of the canonical map
+pub record HasCanonicalText (map : RotationSystem) (text : List ℕ) : Type 0 where
+  pub canonical : RotationSystem
+  pub is_canonical : IsCanonicalOf map canonical
+  pub is_text : IsMapText canonical text
+
+-- `ok V E F`: how many vertices, edges and faces the map has
+abbrev pub IsCountsText : RotationSystem → List ℕ → Type 0
+IsCountsText map text =
+    let s = structure_of map in
+    text ≡ codes "ok " ++ decimal (vertices s) ++ codes " " ++ decimal (edges s) ++ codes " " ++ decimal (faces s) ++ newline ∷ []
+
+-- a map of a class is told its counts, another the first rule that it breaks
+abbrev pub CountsIn : {Measure : Type 0} → (RotationSystem → Result Measure ClassRefusal → Type 0) → RotationSystem → Result (List ℕ) ClassRefusal → Type 0
+CountsIn {Measure} answers map (Ok text) = ((size : Measure) × answers map (Ok size)) × IsCountsText map text
+CountsIn answers map (Err why) = answers map (Err why)
+
+-- the text is the tree file of the opening of the map
+pub record HasOpenText (map : RotationSystem) (text : List ℕ) : Type 0 where
+  pub word : List ℕ
+  pub opened : IsOpening map word
+  pub is_text : IsTreeLine word text
+
+-- a map with even degrees is told its opening, another the first rule that it breaks
+pub data Opens (map : RotationSystem) : Result (List ℕ) ClassRefusal → Type 0 where
+  opened : (text : List ℕ) → HasOpenText map text → Opens map (Ok text)
+  no_dart : length map.sigma ≡ 0 → Opens map (Err class.Empty)
+  other_degree : (dart : ℕ) → IsLeastOther (structure_of map) (EvenUpTo MAX_DEGREE) dart → Opens map (Err (class.Vertex dart))
+
+-- what is answered to any map; the greatest general map has half as many edges as the greatest of all
+abbrev pub task_relation : MapTask → MapRelation
+task_relation Canon = record { limit = MAX_EDGES; answers = Tells HasCanonicalText }
+task_relation CheckGeneral = record { limit = MAX_EDGES / 2; answers = Tells IsCountsText }
+task_relation OpenEulerian = record { limit = MAX_EDGES; answers = Opens }

@@ -1,0 +1,7 @@
+pub mod Answering
+pub mod ChoicesFile
+pub mod ClassLaws
+pub mod MapReading
+pub mod Streams
+pub mod TreeFile
+pub mod Words

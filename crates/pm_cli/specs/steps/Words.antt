@@ -1,0 +1,67 @@
+-- How words are read as a command, piece by piece.
+use Rattle.std.specs.Prelude.{◌≡◌, ℕ, suc, ◌≤◌, ◌⊎◌, List, [], ◌∷◌, length, take, codes}
+use Rattle.pm_cli.specs.declared.class.Class.{Class}
+use Rattle.pm_cli.specs.declared.class.Class.TheVariants as class
+use Rattle.pm_cli.specs.declared.class.Size.{Size}
+use Rattle.pm_cli.specs.declared.command.Command.{Command}
+use Rattle.pm_cli.specs.declared.words.Verb.{Verb}
+use Rattle.pm_cli.specs.declared.words.Verb.TheVariants as verb
+use Rattle.pm_cli.specs.Classes.{IsSize}
+use Rattle.pm_cli.specs.Commands.{class_word, size_words, number_words, verb_of, behind, IsCommand, AreDrawNumbers}
+
+-- the words are none of a set; the first k begin words of the set, and no more do
+pub record StopsAt (in_set : List (List ℕ) → Type 0) (words : List (List ℕ)) (k : ℕ) : Type 0 where
+  pub whole : List (List ℕ)
+  pub is_in : in_set whole
+  pub within : k ≤ length words
+  pub same : take k words ≡ take k whole
+  pub no_more : (other : List (List ℕ)) → in_set other → take (suc k) words ≡ take (suc k) other → ⊥
+
+-- one word with this property
+pub record IsOneOf (is_word : List ℕ → Type 0) (words : List (List ℕ)) : Type 0 where
+  pub word : List ℕ
+  pub is : is_word word
+  pub alone : words ≡ word ∷ []
+
+abbrev pub IsClassWord : List ℕ → Type 0
+IsClassWord word = (class : Class) × (word ≡ class_word class)
+
+abbrev pub IsCheckedWord : List ℕ → Type 0
+IsCheckedWord word = (word ≡ codes "general") ⊎ IsClassWord word
+
+-- a class and a size of it
+pub record AreSizeWords (words : List (List ℕ)) : Type 0 where
+  pub size : Size
+  pub admissible : IsSize size
+  pub are : words ≡ size_words size []
+
+-- a seed and a count
+pub record AreNumberWords (words : List (List ℕ)) : Type 0 where
+  pub seed : ℕ
+  pub count : ℕ
+  pub numbers : AreDrawNumbers seed count
+  pub are : words ≡ number_words seed count
+
+-- a class and a size of it, and then a seed and a count
+pub record AreDrawWords (words : List (List ℕ)) : Type 0 where
+  pub size : Size
+  pub admissible : IsSize size
+  pub rest : List (List ℕ)
+  pub numbers : AreNumberWords rest
+  pub are : words ≡ size_words size rest
+
+-- the words that may stand behind a verb
+abbrev pub AreBehind : Verb → List (List ℕ) → Type 0
+AreBehind verb.Close = IsOneOf (λ word. word ≡ class_word class.Eulerian)
+AreBehind verb.Open = IsOneOf (λ word. word ≡ class_word class.Eulerian)
+AreBehind verb.Canon = λ words. words ≡ []
+AreBehind verb.Check = IsOneOf IsCheckedWord
+AreBehind verb.Sample = AreSizeWords
+AreBehind verb.Unsample = IsOneOf IsClassWord
+AreBehind verb.Draw = AreDrawWords
+
+-- the verb, and these words behind it, spell the command
+pub record IsBehind (verb : Verb) (words : List (List ℕ)) (command : Command) : Type 0 where
+  pub is_command : IsCommand command
+  pub is_verb : verb_of command ≡ verb
+  pub same : words ≡ behind command

@@ -1,0 +1,20 @@
+//! The classes of maps that commands know, and their sizes.
+use pm_trees::Profile;
+
+/// A class of maps that can be sampled.
+#[derive(Clone, Copy)]
+pub enum Class {
+    /// Every vertex has degree 4.
+    Quartic,
+    /// Every vertex has an even degree.
+    Eulerian,
+}
+
+/// A class, and the size of a map of it.
+#[derive(Drop)]
+pub enum Size {
+    /// So many vertices of degree 4.
+    Quartic(u32),
+    /// So many vertices of each degree.
+    Eulerian(Profile),
+}

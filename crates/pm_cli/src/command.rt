@@ -1,0 +1,44 @@
+//! The commands.
+use crate::class::{Class, Size};
+
+/// A command, by where its answer comes from.
+#[derive(Drop)]
+pub enum Command {
+    /// Reads a file and answers to it.
+    Reads(Reader),
+    /// Reads nothing, and makes maps of a size.
+    Makes { task: Maker, size: Size },
+}
+
+/// A command that reads a file.
+#[derive(Drop)]
+pub enum Reader {
+    /// `close eulerian`: closes a blossoming tree.
+    CloseEulerian,
+    /// Answers to any map.
+    OfMap(MapTask),
+    /// `check CLASS`: counts the vertices, edges and faces of a map of the class.
+    Check(Class),
+    /// `unsample CLASS`: answers the choices of a map of the class and a residue.
+    Unsample(Class),
+    /// `sample CLASS SIZE`: answers the map and the residue of a list of choices.
+    Sample(Size),
+}
+
+/// What is answered to a map, whatever its class.
+#[derive(Clone, Copy)]
+pub enum MapTask {
+    /// `canon`: the canonical map of the map.
+    Canon,
+    /// `check general`: how many vertices, edges and faces it has.
+    CheckGeneral,
+    /// `open eulerian`: the tree that the map opens to, where its vertices have even degrees.
+    OpenEulerian,
+}
+
+/// What is done with a size.
+#[derive(Clone, Copy)]
+pub enum Maker {
+    /// `draw CLASS SIZE SEED COUNT`: draws lists of choices, and answers each with its map and residue.
+    Draw { seed: u64, count: u64 },
+}
