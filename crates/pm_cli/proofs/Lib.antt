@@ -1,3 +1,4 @@
+pub mod ByWords
 pub mod ChoicesLines
 pub mod ClassLaws
 pub mod CommandWords

@@ -34,6 +34,12 @@ record HasSizeLaws (at : AtSize) : Type 0 where
   one_sample : HasOneSample at.samples
   valid : (choices : List ℕ) (m : RotationSystem) (r : List ℕ) → at.samples choices m r → IsValidList choices at.choice_limits
 
+pub same_reader : {r s : Reader} → Reads r ≡ Reads s → r ≡ s
+same_reader e = cc
+
+pub reads_or_makes : {r : Reader} {t : Maker} {s : Size} → Reads r ≡ Makes t s → ⊥
+reads_or_makes e = cc
+
 module _ (laws : AreSamplers) where
   quartic_laws : IsSampler quartic_sampler
   quartic_laws = laws.quartic
@@ -65,17 +71,11 @@ module _ (laws : AreSamplers) where
   makes_once : (task : Maker) (size : Size) → IsSize size → (a b : Result (List ℕ) Refusal) → AnswersSize task (sized size) a → AnswersSize task (sized size) b → a ≡ b
   makes_once (Draw seed count) size is a b x y = let one = sized_laws size is in draws_once (sized size) one.one_sample one.valid seed count a b x y
 
-  same_reader : {r s : Reader} → Reads r ≡ Reads s → r ≡ s
-  same_reader e = cc
-
   same_task : {t u : Maker} {r s : Size} → Makes t r ≡ Makes u s → t ≡ u
   same_task e = cc
 
   same_size : {t u : Maker} {r s : Size} → Makes t r ≡ Makes u s → r ≡ s
   same_size e = cc
-
-  reads_or_makes : {r : Reader} {t : Maker} {s : Size} → Reads r ≡ Makes t s → ⊥
-  reads_or_makes e = cc
 
   pub has_one_answer : HasOneAnswer
   has_one_answer words bytes _ _ (no_command k x) (no_command j y) = ap (λ (m : ℕ). Err (Usage m)) (omega (arith, x.greatest j y.begins, y.greatest k x.begins))

@@ -1,6 +1,6 @@
 //! Laws of the answer.
 ghost use Rattle.pm_cli.specs.steps.ClassLaws.{IsSampler};
-ghost use Rattle.pm_cli.specs.Laws.{HasOneAnswer, ClosedTreesOpen, OpenedMapsClose, UnsampledPairsReturn};
+ghost use Rattle.pm_cli.specs.Laws.{HasOneAnswer, ClosedTreesOpen, OpenedMapsClose, UnsampledPairsReturn, ClosedTreesOpenByWords, OpenedMapsCloseByWords, UnsampledPairsReturnByWords};
 
 use pm_class::MapClass;
 use pm_euler::{Eulerian, Quartic};
@@ -35,12 +35,15 @@ pub fn words_and_bytes_have_one_answer()
 pub fn opening_undoes_closing()
     ensures opened { ClosedTreesOpen }
     ensures closed { OpenedMapsClose }
+    ensures opened_by_words { ClosedTreesOpenByWords }
+    ensures closed_by_words { OpenedMapsCloseByWords }
 {}
 
 /// A law: of the file that `unsample` answered for a class, `sample` for some size of it gives back the canonical map of the map file, as
 /// `canon` answers it, and its residue line.
 pub fn sampling_undoes_unsampling()
-    ensures { UnsampledPairsReturn }
+    ensures files { UnsampledPairsReturn }
+    ensures words { UnsampledPairsReturnByWords }
 {
     law::<Quartic>();
     law::<Eulerian>();
