@@ -17,18 +17,18 @@ use Rattle.pm_objects.proofs.OneOrder.{one_order, turned_injective}
 use Rattle.pm_objects.proofs.Sorting.{stands_turned}
 use Rattle.pm_euler.specs.Eulerian.{SamplesEulerian, codes_by_degree}
 use Rattle.pm_euler.specs.PlantedAnew.{IsPlantedAnew}
-use Rattle.pm_euler.specs.Kinds.{IsWordOfKinds, kind_of, kinds_of}
+use Rattle.pm_planting.specs.Kinds.{IsWordOfKinds, kind_of, kinds_of}
 use Rattle.pm_euler.specs.Objects.{halves_of, nodes_of_profile, leaves_of_profile, ranges_of}
 use Rattle.pm_euler.proofs.EulerianBounds.{arrangement_long, ranks_long, length-eulerian_choices}
 use Rattle.pm_euler.proofs.EulerianSamples.{planted_tree}
-use Rattle.pm_euler.proofs.KindSides.{kind_node, sides_kinds, halves_in_kinds}
+use Rattle.pm_planting.proofs.KindSides.{kind_node, sides_kinds, halves_in_kinds}
 use Rattle.pm_euler.proofs.EulerianParts.{whole_of_parts}
 use Rattle.pm_euler.proofs.ObjectLemmas.{halves_are, halves_few}
-use Rattle.pm_euler.proofs.PlaneTexts.{half_degrees}
+use Rattle.pm_planting.proofs.PlaneTexts.{half_degrees}
 use Rattle.pm_euler.proofs.OneUnplanting.{anew_is_once}
 use Rattle.pm_euler.proofs.Preorders.{preorder_is}
-use Rattle.pm_euler.proofs.SideReading.{one_reading, halves_in}
-use Rattle.pm_euler.proofs.SideTexts.{same_push}
+use Rattle.pm_planting.proofs.SideReading.{one_reading, halves_in}
+use Rattle.pm_planting.proofs.SideTexts.{same_push}
 
 -- the rank of an object that stands among objects of the same kinds
 same_rank : (halves ranks others objects : List ℕ) (object : ℕ) → kinds_of halves ranks objects ≡ kinds_of halves others objects → Stands objects object → 0 < arity_of halves object

@@ -1,5 +1,5 @@
 -- Maps with vertices of even degrees: their one profile, and what a map is answered that should be one.
-use Rattle.std.proofs.Common.{◌≡◌, ◌≢◌, ◌⊎◌, ℕ, zero, suc, ◌%◌, ◌<◌, ◌≤◌, Ok, Err, inl, inr, List, length, slice_index, refl, sym, ◌∙◌, ap, subst, arith}
+use Rattle.std.proofs.Common.{◌≡◌, ◌⊎◌, ℕ, suc, ◌%◌, ◌<◌, ◌≤◌, Ok, Err, inl, inr, List, length, slice_index, refl, sym, ◌∙◌, ap, subst, arith}
 use Rattle.std.proofs.lemmas.Bool.{cases_eq, cases_order}
 use Rattle.std.proofs.lemmas.List.{get_or_past}
 use Rattle.pm_limits.specs.declared.TheConstants.{MAX_DEGREE}
@@ -19,22 +19,9 @@ use Rattle.pm_trees.specs.Pairs.{IsProfile, BreaksPair, empty, wrong, pair_at}
 use Rattle.pm_trees.specs.Profile.{HasTooMany}
 use Rattle.pm_trees.specs.Degrees.{AreListed}
 use Rattle.pm_trees.proofs.CountedPairs.{AreCounted, sum_bounded, one_counted}
+use Rattle.pm_objects.proofs.ObjectCounts.{find_range}
 use Rattle.pm_euler.specs.Eulerian.{IsEulerianAnswer}
 use Rattle.pm_class.specs.Sampling.{IsSizeWhereAnswered, HasOneAnswer}
-
--- the pair with a degree, or there is none
-pub find_pair : (pairs : List (ℕ × ℕ)) (degree n : ℕ) → ((k : ℕ) × (k < n) × ((pair_at pairs k).0 ≡ degree)) ⊎ ((k : ℕ) → k < n → (pair_at pairs k).0 ≢ degree)
-find_pair pairs degree zero = inr (λ k less. absurd (omega arith))
-find_pair pairs degree (suc n) = elim (cases_eq (pair_at pairs n).0 degree) [
-  | inl here ↦ inl (n, omega arith, here)
-  | inr other ↦ elim (find_pair pairs degree n) [
-    | inl found ↦ inl (found.0, (let l = found.1 in omega (arith, l)), found.2)
-    | inr none ↦ inr (λ k less. elim (cases_eq k n) [
-      | inl same ↦ (λ e. other (sym (ap (λ (i : ℕ). (pair_at pairs i).0) same) ∙ e))
-      | inr before ↦ none k (omega (arith, less, before))
-    ])
-  ]
-]
 
 -- a list that has the vertices' degrees counts them
 pub counted_of_degrees : (s : Structure) (pairs : List (ℕ × ℕ)) → IsProfile pairs → HasDegrees s pairs → AreCounted (vertices_of_degree s) pairs
@@ -42,7 +29,7 @@ counted_of_degrees s pairs profile has = record {
   rising = λ k less. (profile.are_pairs.right k less).rising;
   some = λ k less. (profile.are_pairs.right k less).counted;
   counted = λ k less. sym (has.counts k less);
-  all = λ degree some. elim (find_pair pairs degree (length pairs)) [
+  all = λ degree some. elim (find_range pairs degree (length pairs)) [
     | inl found ↦ found
     | inr none ↦ absurd (let nothing = has.others degree none in omega (arith, some, nothing))
   ];

@@ -32,29 +32,30 @@ use Rattle.pm_euler.specs.Bounds.{eulerian_choices, eulerian_residues}
 use Rattle.pm_euler.specs.Closed.{IsCanonicalClosure}
 use Rattle.pm_objects.specs.Preorder.{ArePreordered}
 use Rattle.pm_euler.specs.Eulerian.{SamplesEulerian}
-use Rattle.pm_euler.specs.Kinds.{IsWordOfKinds, kind_of, kinds_of}
+use Rattle.pm_planting.specs.Kinds.{IsWordOfKinds, kind_of, kinds_of}
 use Rattle.pm_objects.specs.Objects.{arity_of, letters_of}
 use Rattle.pm_euler.specs.Objects.{halves_of, nodes_of_profile, leaves_of_profile, ranges_of}
-use Rattle.pm_euler.specs.PlanePlanted.{IsPlantedPlane}
+use Rattle.pm_planting.specs.PlanePlanted.{IsPlantedPlane}
 use Rattle.pm_euler.specs.PlantedAnew.{IsPlantedAnew}
 use Rattle.pm_euler.specs.Unplanted.{IsUnplanted}
 use Rattle.pm_objects.proofs.CodeBounds.{valid_cons, valid_append, valid_code}
 use Rattle.pm_euler.proofs.EulerianBounds.{residues_by_range}
 use Rattle.pm_euler.proofs.EulerianMaps.{profile_admits, with_profile}
 use Rattle.pm_euler.proofs.EulerianParts.{AreParts, parts_of}
-use Rattle.pm_euler.proofs.EulerianTrees.{all_objects, profile_kinds, kinds_leaves, same_pair}
+use Rattle.pm_planting.proofs.KindLaws.{kinds_leaves, same_pair}
+use Rattle.pm_euler.proofs.EulerianTrees.{all_objects, profile_kinds}
 use Rattle.pm_objects.proofs.RangeCodes.{valid_split, codes_exist}
 use Rattle.pm_objects.proofs.ObjectCounts.{numbers}
 use Rattle.pm_objects.proofs.Preorders.{letters_turned}
-use Rattle.pm_euler.proofs.KindSides.{IsKind, of_leaf, of_node, kind_leaf, kind_node, kinds_each, kinds_sides, kinds_good, letters_in, letters_of_kinds}
+use Rattle.pm_planting.proofs.KindSides.{IsKind, of_leaf, of_node, kind_leaf, kind_node, kinds_each, kinds_sides, kinds_good, letters_in, letters_of_kinds}
 use Rattle.pm_euler.proofs.ObjectLemmas.{halves_are, halves_few, all_of_profile, profile_apart}
 use Rattle.pm_objects.proofs.ObjectsFound.{AreFound, objects_found}
-use Rattle.pm_euler.proofs.PlaneTexts.{half_degrees}
-use Rattle.pm_euler.proofs.PlaneTrees.{node_object}
+use Rattle.pm_planting.proofs.PlaneTexts.{half_degrees}
+use Rattle.pm_planting.proofs.PlaneTrees.{node_object}
 use Rattle.pm_objects.proofs.SameCounts.{IsAsMany, counted_keys}
-use Rattle.pm_euler.proofs.SideReading.{halves_in}
+use Rattle.pm_planting.proofs.SideReading.{halves_in}
 use Rattle.pm_euler.proofs.SomeUnplanting.{anew_exists, canonical_closes}
-use Rattle.pm_euler.proofs.WordKinds.{kinds_exist}
+use Rattle.pm_planting.proofs.WordKinds.{kinds_exist}
 
 -- ranks by object, where the objects in preorder have these kinds
 pub record AreRanksOf (pairs kinds : List (ℕ × ℕ)) (objects ranks : List ℕ) : Type 0 where

@@ -18,7 +18,7 @@ use Rattle.pm_euler.specs.Closed.{IsCanonicalClosure}
 use Rattle.pm_objects.specs.Preorder.{ArePreordered}
 use Rattle.pm_euler.specs.Eulerian.{SamplesEulerian, codes_by_degree}
 use Rattle.pm_euler.specs.Objects.{halves_of, nodes_of_profile, leaves_of_profile}
-use Rattle.pm_euler.specs.PlanePlanted.{IsPlantedPlane}
+use Rattle.pm_planting.specs.PlanePlanted.{IsPlantedPlane}
 use Rattle.pm_euler.specs.PlantedAnew.{IsPlantedAnew}
 use Rattle.pm_class.specs.declared.sample.Sample.{Sample}
 use Rattle.pm_class.specs.Sampling.{IsSampled, HasOneSample, EachListIsSampled}
@@ -27,8 +27,8 @@ use Rattle.pm_euler.proofs.ClosedMaps.{canonical_closure_is_rooted}
 use Rattle.pm_euler.proofs.EulerianBounds.{arrangement_long, arrangement_is_valid, rank_is_valid, free_is_valid, eulerian_residue_is_valid}
 use Rattle.pm_euler.proofs.ObjectLemmas.{HasObjects, halves_are, halves_some, halves_few}
 use Rattle.pm_euler.proofs.OneSample.{anew_alike, anew_balances, anew_blossoms, closed_anew_once, old_plant_few}
-use Rattle.pm_euler.proofs.PlaneLaws.{plane_planted_blossoming, plane_planted_leaves, plane_planted_nodes, plane_planted_no_odd}
-use Rattle.pm_euler.proofs.PlaneTrees.{plane_planted_exists, plane_planted_unique}
+use Rattle.pm_planting.proofs.PlaneLaws.{plane_planted_blossoming, plane_planted_leaves, plane_planted_nodes, plane_planted_no_odd}
+use Rattle.pm_planting.proofs.PlaneTrees.{plane_planted_exists, plane_planted_unique}
 use Rattle.pm_objects.proofs.Preorders.{HasPreorder}
 use Rattle.pm_euler.proofs.Preorders.{IsPreorder, preorder_exists, preorder_is, one_preorder}
 

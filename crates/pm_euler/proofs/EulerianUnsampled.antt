@@ -17,7 +17,7 @@ use Rattle.pm_open.specs.Opening.{IsOpening}
 use Rattle.pm_words.specs.Word.{turned}
 use Rattle.pm_euler.specs.Bounds.{eulerian_choices, eulerian_residues}
 use Rattle.pm_euler.specs.Eulerian.{IsEulerianAnswer, SamplesEulerian, codes_by_degree}
-use Rattle.pm_euler.specs.Kinds.{IsWordOfKinds}
+use Rattle.pm_planting.specs.Kinds.{IsWordOfKinds}
 use Rattle.pm_objects.specs.Codes.{AreObjectsOf}
 use Rattle.pm_objects.specs.Objects.{arity_of}
 use Rattle.pm_objects.proofs.CodeBounds.{length-bounds_by_range}
@@ -28,10 +28,10 @@ use Rattle.pm_class.specs.Unsampling.{IsUnsampled}
 use Rattle.pm_euler.proofs.EulerianPairs.{IsListOf, list_of_objects, many_of_profile, opening_leaves, ranks_of, residue_parts, unplanted_nodes}
 use Rattle.pm_euler.proofs.EulerianTrees.{profile_kinds}
 use Rattle.pm_objects.proofs.RangeCodes.{codes_exist}
-use Rattle.pm_euler.proofs.KindSides.{kinds_each}
+use Rattle.pm_planting.proofs.KindSides.{kinds_each}
 use Rattle.pm_euler.proofs.ObjectLemmas.{all_of_profile, halves_few, profile_apart}
 use Rattle.pm_objects.proofs.ObjectsFound.{found_of_objects, some_objects}
-use Rattle.pm_euler.proofs.SideReading.{halves_in}
+use Rattle.pm_planting.proofs.SideReading.{halves_in}
 use Rattle.pm_euler.proofs.SomeUnplanting.{unplanted_closes}
 
 -- the last number of a residue

@@ -24,16 +24,16 @@ use Rattle.pm_trees.specs.BudPattern.{IsHalfDegree}
 use Rattle.pm_trees.specs.Degrees.{nodes_of}
 use Rattle.pm_objects.specs.Objects.{arity_of, letters_of}
 use Rattle.pm_objects.proofs.Sorting.{count_yes, count_no}
-use Rattle.pm_euler.specs.Kinds.{IsWordOfKinds, kind_of, kinds_of}
-use Rattle.pm_euler.specs.PlanePlanted.{IsPlantedPlane}
+use Rattle.pm_planting.specs.Kinds.{IsWordOfKinds, kind_of, kinds_of}
+use Rattle.pm_planting.specs.PlanePlanted.{IsPlantedPlane}
 use Rattle.pm_euler.specs.Planted.{IsPlanted, shape_objects}
-use Rattle.pm_euler.specs.ShapeRead.{IsPlantedOf, nodes_in, ranks_in}
-use Rattle.pm_euler.proofs.EulerianTrees.{kinds_nodes, same_pair}
-use Rattle.pm_euler.proofs.KindSides.{IsKind, of_leaf, of_node, kind_leaf, kind_node, kinds_each, kinds_good, kinds_sides, letters_in, sides_kinds}
-use Rattle.pm_euler.proofs.PlaneLaws.{plane_planted_length, plane_planted_leaves, plane_planted_nodes, plane_planted_no_odd, plane_planted_blossoming}
-use Rattle.pm_euler.proofs.PlaneTrees.{plane_planted_exists, plane_planted_unique}
-use Rattle.pm_euler.proofs.SideReading.{halves_in, one_reading}
-use Rattle.pm_euler.proofs.WordKinds.{kinds_exist}
+use Rattle.pm_euler.specs.steps.ShapeRead.{IsPlantedOf, nodes_in, ranks_in}
+use Rattle.pm_planting.proofs.KindLaws.{kinds_nodes, same_pair}
+use Rattle.pm_planting.proofs.KindSides.{IsKind, of_leaf, of_node, kind_leaf, kind_node, kinds_each, kinds_good, kinds_sides, letters_in, sides_kinds}
+use Rattle.pm_planting.proofs.PlaneLaws.{plane_planted_length, plane_planted_leaves, plane_planted_nodes, plane_planted_no_odd, plane_planted_blossoming}
+use Rattle.pm_planting.proofs.PlaneTrees.{plane_planted_exists, plane_planted_unique}
+use Rattle.pm_planting.proofs.SideReading.{halves_in, one_reading}
+use Rattle.pm_planting.proofs.WordKinds.{kinds_exist}
 
 -- the half degrees of forks, and of the number behind them
 two : (n k : ℕ) → k < n → arity_of (replicate n 2) k ≡ 2

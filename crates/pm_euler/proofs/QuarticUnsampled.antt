@@ -18,7 +18,7 @@ use Rattle.pm_canon.proofs.ExistenceLemmas.{canonical_map_exists}
 use Rattle.pm_open.specs.Opening.{IsOpening}
 use Rattle.pm_euler.specs.Bounds.{quartic_choices, quartic_residues}
 use Rattle.pm_euler.specs.Quartic.{SamplesQuartic}
-use Rattle.pm_euler.specs.ShapeRead.{IsPlantedOf}
+use Rattle.pm_euler.specs.steps.ShapeRead.{IsPlantedOf}
 use Rattle.pm_euler.specs.Unplanted.{IsUnplanted}
 use Rattle.pm_class.specs.Unsampling.{IsUnsampled}
 use Rattle.pm_objects.proofs.CodeBounds.{length-code_bounds}

@@ -1,12 +1,9 @@
 pub mod Bounds
 pub mod Closed
 pub mod Eulerian
-pub mod Folded
-pub mod Kinds
 pub mod Objects
-pub mod PlanePlanted
 pub mod Planted
 pub mod PlantedAnew
 pub mod Quartic
-pub mod ShapeRead
+pub mod steps
 pub mod Unplanted

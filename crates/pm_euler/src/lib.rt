@@ -8,8 +8,6 @@ mod eulerian;
 mod map_profile;
 mod object_order;
 mod objects;
-mod plane_planting;
-mod plane_reading;
 mod planting;
 mod quartic;
 mod shape_reading;

@@ -5,7 +5,7 @@ ghost use Rattle.pm_remy.specs.Tree.{leaves};
 ghost use Rattle.pm_remy.specs.Words.{forks_in};
 ghost use Rattle.pm_euler.specs.Planted.{IsPlanted, shape_objects};
 
-use crate::plane_planting::plant_plane;
+use pm_planting::plant_plane;
 use pm_remy::{LabelTree, shape};
 use pm_trees::Tree;
 use std::alloc::{AllocError, Global};

@@ -1,8 +1,8 @@
 //! From a blossoming tree whose nodes all have degree 4 back to the binary tree and the bud patterns.
 ghost use Rattle.std.specs.Prelude.{◌≡◌, ℕ, Bool, List, IfOk};
-ghost use Rattle.pm_euler.specs.ShapeRead.{IsPlantedOf, nodes_in, ranks_in};
+ghost use Rattle.pm_euler.specs.steps.ShapeRead.{IsPlantedOf, nodes_in, ranks_in};
 
-use crate::plane_reading::kinds_of_tree;
+use pm_planting::kinds_of_tree;
 use pm_trees::Tree;
 use std::alloc::{AllocError, Global};
 

@@ -1,5 +1,5 @@
 use Rattle.std.proofs.Common.{ap, ◌∙◌}
-use Rattle.pm_euler.specs.ShapeRead.{nodes_in, ranks_in}
+use Rattle.pm_euler.specs.steps.ShapeRead.{nodes_in, ranks_in}
 use Rattle.pm_euler.proofs.QuarticTrees.{read_shape}
 use Rattle.pm_euler.proofs.shape_reading.shape_and_ranks.Goals as goal
 

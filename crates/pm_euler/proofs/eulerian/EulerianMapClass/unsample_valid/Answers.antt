@@ -10,7 +10,7 @@ use Rattle.pm_euler.specs.Objects.{nodes_of_profile, ranges_of}
 use Rattle.pm_euler.proofs.EulerianPairs.{profile_darts, profile_degrees}
 use Rattle.pm_euler.proofs.EulerianUnsampled.{codes_in, codes_many, start_low, old_plant_low, old_plant_is_leaf, kinds_are_many, some_objects_read, unsampled_of_objects}
 use Rattle.pm_euler.proofs.ObjectLemmas.{halves_few, profile_apart}
-use Rattle.pm_euler.proofs.SideReading.{halves_in}
+use Rattle.pm_planting.proofs.SideReading.{halves_in}
 use Rattle.pm_euler.proofs.eulerian.EulerianMapClass.unsample_valid.Goals as goal
 
 pub overflow_cast-residue : goal.overflow_cast-residue

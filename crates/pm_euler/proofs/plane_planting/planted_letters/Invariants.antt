@@ -1,9 +1,0 @@
-use Rattle.std.proofs.Common.{◌+◌, ◌-◌, ◌*◌, length, vec_len}
-use Rattle.pm_euler.proofs.PlaneSteps.{IsBegun}
-use Rattle.pm_euler.proofs.plane_planting.planted_letters.Given as goal
-
-abbrev pub invariant-letters : goal.invariant-letters
-invariant-letters l = IsBegun l.halves l.ranks l.objects l.letters.items l.ahead.items l.next
-
-abbrev pub decreases-letters : goal.decreases-letters
-decreases-letters l = 65 * (length l.objects - l.next) + vec_len l.ahead

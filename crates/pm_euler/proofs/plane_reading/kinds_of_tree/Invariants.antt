@@ -1,5 +1,0 @@
-use Rattle.pm_euler.proofs.ReadingSteps.{IsReadFrom}
-use Rattle.pm_euler.proofs.plane_reading.kinds_of_tree.Given as goal
-
-abbrev pub invariant-back : goal.invariant-back
-invariant-back l = IsReadFrom l.letters l.place l.entries.items l.kinds.items

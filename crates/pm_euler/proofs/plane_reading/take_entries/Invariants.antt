@@ -1,9 +1,0 @@
-use Rattle.std.proofs.Common.{vec_len}
-use Rattle.pm_euler.proofs.ReadingSteps.{IsTaking}
-use Rattle.pm_euler.proofs.plane_reading.take_entries.Given as goal
-
-abbrev pub invariant-entries : goal.invariant-entries
-invariant-entries l = IsTaking l.fn.entries.items l.entries.items l.front.items
-
-abbrev pub decreases-entries : goal.decreases-entries
-decreases-entries l = vec_len l.entries

@@ -1,0 +1,14 @@
+pub mod FilledRows
+pub mod FoldedKinds
+pub mod KindLaws
+pub mod KindSides
+pub mod PlaneLaws
+pub mod PlaneSteps
+pub mod PlaneTexts
+pub mod PlaneTrees
+pub mod ReadingSteps
+pub mod RootRows
+pub mod Rows
+pub mod SideReading
+pub mod SideTexts
+pub mod WordKinds

@@ -1,0 +1,3 @@
+pub mod Kinds
+pub mod PlanePlanted
+pub mod steps

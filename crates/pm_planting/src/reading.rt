@@ -1,0 +1,60 @@
+//! Reading: a blossoming tree is a plane tree with a bud pattern at each node.
+ghost use Rattle.std.specs.Prelude.{◌≡◌, ℕ, IfOk, OnOk, reverse};
+ghost use Rattle.pm_trees.specs.BudPattern.{HasRank, IsHalfDegree};
+ghost use Rattle.pm_planting.specs.steps.Folded.{front_of, behind};
+ghost use Rattle.pm_planting.specs.Kinds.{IsWordOfKinds};
+
+use pm_trees::{CLOSE, LEAF, OPEN, SLOT, Tree, rank};
+use std::alloc::{AllocError, Global};
+
+/// The kinds of the tree's objects in preorder: for a node half of its degree and the rank of its bud pattern, and for a leaf
+/// two zeros. The letters are read from the last one on. The entries that are read are kept, with a closing bracket before
+/// those of each node whose opening bracket isn't read yet.
+pub fn kinds_of_tree(alloc: Global, tree: &Tree) -> Result<Vec<(u32, u64)>, AllocError>
+    ensures { IfOk result (λ kinds. IsWordOfKinds kinds.items tree.now) }
+{
+    let letters = tree.letters();
+    let mut entries = Vec::new(alloc);
+    let mut kinds = Vec::new(alloc);
+    'back: for place in (0..letters.len()).rev() {
+        let letter = letters[place];
+        if letter == OPEN {
+            kinds.push(end_node(alloc, &mut entries)?)?;
+            entries.push(SLOT)?;
+        } else if letter == LEAF {
+            kinds.push((0, 0))?;
+            entries.push(SLOT)?;
+        } else {
+            entries.push(letter)?;
+        }
+    }
+    kinds.push(end_node(alloc, &mut entries)?)?;
+    kinds.reverse();
+    Ok(kinds)
+}
+
+/// Takes off the entries of the last node, and tells its kind.
+fn end_node(alloc: Global, entries: &mut Vec<u8>) -> Result<(u32, u64), AllocError>
+    requires { (half : ℕ) × (rank : ℕ) × IsHalfDegree half × HasRank half (front_of (reverse entries.old.items)) rank }
+    ensures kind { IfOk result (λ kind. HasRank kind.0 (front_of (reverse entries.old.items)) kind.1) }
+    ensures rest { OnOk result (reverse entries.new.items ≡ behind (reverse entries.old.items)) }
+{
+    let pattern = take_entries(alloc, entries)?;
+    let half = (pattern.len() as u32 + 1) / 2;
+    Ok((half, rank(&pattern)))
+}
+
+/// Takes off the last entries up to a closing bracket, and the bracket.
+fn take_entries(alloc: Global, entries: &mut Vec<u8>) -> Result<Vec<u8>, AllocError>
+    ensures front { IfOk result (λ front. front.items ≡ front_of (reverse entries.old.items)) }
+    ensures rest { OnOk result (reverse entries.new.items ≡ behind (reverse entries.old.items)) }
+{
+    let mut front = Vec::new(alloc);
+    'entries: while let Some(entry) = entries.pop() {
+        if entry == CLOSE {
+            return Ok(front);
+        }
+        front.push(entry)?;
+    }
+    Ok(front)
+}
