@@ -1,2 +1,4 @@
 pub mod BipartiteClass
 pub mod DualsOfMaps
+pub mod GeneralClass
+pub mod NoDarts

@@ -2,5 +2,7 @@
 #![tactic(auto)]
 
 mod bipartite;
+mod general;
 
 pub use bipartite::Bipartite;
+pub use general::General;
