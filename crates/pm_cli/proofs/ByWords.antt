@@ -3,7 +3,8 @@ use Rattle.std.proofs.Common.{◌≡◌, ℕ, ◌≤◌, List, length, refl, sub
 use Rattle.std.specs.Prelude.{Result, Ok}
 use Rattle.pm_io.specs.declared.TheConstants.{MAX_BYTES}
 use Rattle.pm_cli.specs.declared.command.Command.TheVariants.{Reads, Makes}
-use Rattle.pm_cli.specs.declared.command.MapTask.TheVariants.{Canon, OpenEulerian}
+use Rattle.pm_cli.specs.declared.command.MapTask.TheVariants.{Print, OpenEulerian}
+use Rattle.pm_cli.specs.declared.command.Image.TheVariants.{Canon}
 use Rattle.pm_cli.specs.declared.command.Reader.{Reader}
 use Rattle.pm_cli.specs.declared.command.Reader.TheVariants.{CloseEulerian, OfMap, Unsample, Sample}
 use Rattle.pm_cli.specs.declared.refusal.Refusal.{Refusal}
@@ -36,9 +37,9 @@ opened_by_words bytes text within x = to_words (OfMap OpenEulerian) tt text byte
 
 pub closed_by_words : OpenedMapsCloseByWords
 closed_by_words bytes text canonical within x y =
-    to_words CloseEulerian tt text canonical within (closed_again bytes text canonical (by_words (OfMap OpenEulerian) tt bytes text x) (by_words (OfMap Canon) tt bytes canonical y))
+    to_words CloseEulerian tt text canonical within (closed_again bytes text canonical (by_words (OfMap OpenEulerian) tt bytes text x) (by_words (OfMap (Print Canon)) tt bytes canonical y))
 
 pub sampled_by_words : AreSamplers → UnsampledPairsReturnByWords
 sampled_by_words laws class bytes text canonical within x y =
-    let again = sampled_again laws class bytes text canonical (by_words (Unsample class) tt bytes text x) (by_words (OfMap Canon) tt bytes canonical y) in
+    let again = sampled_again laws class bytes text canonical (by_words (Unsample class) tt bytes text x) (by_words (OfMap (Print Canon)) tt bytes canonical y) in
     record { again = again; sampled = to_words (Sample again.size) again.admissible text _ within again.sampled }

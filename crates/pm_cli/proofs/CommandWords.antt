@@ -10,7 +10,9 @@ use Rattle.pm_cli.specs.declared.class.Size.TheVariants as sizes
 use Rattle.pm_cli.specs.declared.command.Command.{Command}
 use Rattle.pm_cli.specs.declared.command.Command.TheVariants.{Reads, Makes}
 use Rattle.pm_cli.specs.declared.command.Reader.TheVariants.{CloseEulerian, OfMap, Check, Unsample, Sample}
-use Rattle.pm_cli.specs.declared.command.MapTask.TheVariants.{Canon, CheckGeneral, OpenEulerian}
+use Rattle.pm_cli.specs.declared.command.MapTask.TheVariants.{Print, CheckGeneral, OpenEulerian}
+use Rattle.pm_cli.specs.declared.command.Image.{Image}
+use Rattle.pm_cli.specs.declared.command.Image.TheVariants.{Canon}
 use Rattle.pm_cli.specs.declared.command.Maker.TheVariants.{Draw}
 use Rattle.pm_cli.specs.declared.words.Verb.{Verb}
 use Rattle.pm_cli.specs.declared.words.Verb.TheVariants as verb
@@ -33,7 +35,7 @@ front k j xs ys le e = sym (shorter k j xs le) ∙ ap (take k) e ∙ shorter k j
 -- a command stands behind its verb
 stands_behind : (command : Command) → IsCommand command → AreBehind (verb_of command) (behind command)
 stands_behind (Reads CloseEulerian) is = record { word = codes "eulerian"; is = refl; alone = refl }
-stands_behind (Reads (OfMap Canon)) is = refl
+stands_behind (Reads (OfMap (Print image))) is = refl
 stands_behind (Reads (OfMap CheckGeneral)) is = record { word = codes "general"; is = inl refl; alone = refl }
 stands_behind (Reads (OfMap OpenEulerian)) is = record { word = codes "eulerian"; is = refl; alone = refl }
 stands_behind (Reads (Check class)) is = record { word = class_word class; is = inr (class, refl); alone = refl }
@@ -46,7 +48,7 @@ stands_behind (Makes (Draw seed count) size) is =
 some_command : (v : Verb) (words : List (List ℕ)) → AreBehind v words → (command : Command) × IsBehind v words command
 some_command verb.Close words is = (Reads CloseEulerian, record { is_command = tt; is_verb = refl; same = is.alone ∙ ap (λ (w : List ℕ). w ∷ []) is.is })
 some_command verb.Open words is = (Reads (OfMap OpenEulerian), record { is_command = tt; is_verb = refl; same = is.alone ∙ ap (λ (w : List ℕ). w ∷ []) is.is })
-some_command verb.Canon words is = (Reads (OfMap Canon), record { is_command = tt; is_verb = refl; same = is })
+some_command (verb.Print image) words is = (Reads (OfMap (Print image)), record { is_command = tt; is_verb = refl; same = is })
 some_command verb.Check words is = elim is.is [
   | inl general ↦ (Reads (OfMap CheckGeneral), record { is_command = tt; is_verb = refl; same = is.alone ∙ ap (λ (w : List ℕ). w ∷ []) general })
   | inr class ↦ (Reads (Check class.0), record { is_command = tt; is_verb = refl; same = is.alone ∙ ap (λ (w : List ℕ). w ∷ []) class.1 })
@@ -74,7 +76,7 @@ stops_at words k begins none = record {
 -- no verb stands first
 pub no_verb : (words : List (List ℕ)) → ((v : Verb) → take 1 words ≡ verb_word v ∷ [] → ⊥) → IsNoCommand words 0
 no_verb words none =
-    stops_at words 0 (record { command = Reads (OfMap Canon); is_command = tt; within = omega arith; same = refl }) (λ command is e. none (verb_of command) e)
+    stops_at words 0 (record { command = Reads (OfMap (Print Canon)); is_command = tt; within = omega arith; same = refl }) (λ command is e. none (verb_of command) e)
 
 -- a verb stands first, and the words behind it are no such words
 pub stops_behind : (words : List (List ℕ)) (v : Verb) (rest : List (List ℕ)) (k : ℕ) → words ≡ verb_word v ∷ rest → StopsAt (AreBehind v) rest k → IsNoCommand words (1 + k)
@@ -120,7 +122,7 @@ one_size s t x y c e =
 data IsOfVerb : Verb → Command → Type 0 where
   closes : IsOfVerb verb.Close (Reads CloseEulerian)
   opens : IsOfVerb verb.Open (Reads (OfMap OpenEulerian))
-  canonizes : IsOfVerb verb.Canon (Reads (OfMap Canon))
+  prints : (image : Image) → IsOfVerb (verb.Print image) (Reads (OfMap (Print image)))
   counts : IsOfVerb verb.Check (Reads (OfMap CheckGeneral))
   checks : (class : Class) → IsOfVerb verb.Check (Reads (Check class))
   unsamples : (class : Class) → IsOfVerb verb.Unsample (Reads (Unsample class))
@@ -129,7 +131,7 @@ data IsOfVerb : Verb → Command → Type 0 where
 
 is_of_verb : (command : Command) → IsOfVerb (verb_of command) command
 is_of_verb (Reads CloseEulerian) = closes
-is_of_verb (Reads (OfMap Canon)) = canonizes
+is_of_verb (Reads (OfMap (Print image))) = prints image
 is_of_verb (Reads (OfMap CheckGeneral)) = counts
 is_of_verb (Reads (OfMap OpenEulerian)) = opens
 is_of_verb (Reads (Check class)) = checks class
@@ -146,7 +148,7 @@ one_count {s} {c} {t} {d} x y e = let p = x.few in let q = y.few in decimal_inje
 one_of_verb : (v : Verb) (a b : Command) → IsOfVerb v a → IsOfVerb v b → IsCommand a → IsCommand b → behind a ≡ behind b → a ≡ b
 one_of_verb _ _ _ closes closes x y e = refl
 one_of_verb _ _ _ opens opens x y e = refl
-one_of_verb _ _ _ canonizes canonizes x y e = refl
+one_of_verb _ _ _ (prints image) (prints _) x y e = refl
 one_of_verb _ _ _ counts counts x y e = refl
 one_of_verb _ _ _ counts (checks class) x y e = absurd (no_general_class class (first_words e))
 one_of_verb _ _ _ (checks class) counts x y e = absurd (no_general_class class (sym (first_words e)))

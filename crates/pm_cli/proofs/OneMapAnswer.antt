@@ -1,16 +1,22 @@
 -- The commands from a map file to a text have one answer to it.
-use Rattle.std.proofs.Common.{◌≡◌, ℕ, List, refl, sym, ap, ◌∙◌, subst, arith}
+use Rattle.std.proofs.Common.{◌≡◌, ℕ, ◌<◌, List, length, refl, sym, ap, ◌∙◌, subst, arith}
 use Rattle.std.specs.Prelude.{Option, None, Some, Result, Ok, Err}
 use Rattle.pm_limits.specs.declared.TheConstants.{MAX_DEGREE}
 use Rattle.pm_text.specs.Broken.{IsBrokenLine}
-use Rattle.pm_map.specs.declared.admitted.Degrees.TheVariants.{EvenUpTo}
+use Rattle.pm_map.specs.declared.admitted.Degrees.TheVariants.{Exactly, EvenUpTo}
 use Rattle.pm_map.specs.declared.refusal.MapRefusal.{MapRefusal}
 use Rattle.pm_map.specs.declared.refusal.MapRefusal.TheVariants as made
 use Rattle.pm_map.specs.declared.class_refusal.ClassRefusal.{ClassRefusal}
 use Rattle.pm_map.specs.declared.class_refusal.ClassRefusal.TheVariants as class
 use Rattle.pm_map.specs.Rotation.{RotationSystem, IsRootedMap, structure_of}
 use Rattle.pm_map.proofs.DegreeRules.{least_other_is_unique}
-use Rattle.pm_map.proofs.UniqueCanonical.{canonical_map_is_unique}
+use Rattle.pm_map.specs.Structure.{Same}
+use Rattle.pm_map.specs.DualLaws.{IsDualOf}
+use Rattle.pm_map.proofs.SameMaps.{same_as_itself}
+use Rattle.pm_map.proofs.UniqueCanonical.{canonical_map_is_unique, canonical_maps_tell}
+use Rattle.pm_medial.specs.Medial.{IsMedialMap, IsUnmedialOf}
+use Rattle.pm_medial.proofs.OneMedial.{one_medial}
+use Rattle.pm_medial.proofs.UnmedialLaws.{unmedials_tell, unmedial_is_four}
 use Rattle.pm_mapfile.specs.declared.refusal.FileRefusal.{FileRefusal}
 use Rattle.pm_mapfile.specs.declared.refusal.FileRefusal.TheVariants as reading
 use Rattle.pm_mapfile.specs.MapFile.{IsMapFile}
@@ -21,9 +27,11 @@ use Rattle.pm_class.specs.Sampling.{HasOneAnswer}
 use Rattle.pm_open.proofs.KeptByOpening.{opened_degrees, opened_dart}
 use Rattle.pm_open.proofs.UniqueOpening.{one_opening}
 use Rattle.pm_cli.specs.declared.command.MapTask.{MapTask}
-use Rattle.pm_cli.specs.declared.command.MapTask.TheVariants.{Canon, CheckGeneral, OpenEulerian}
+use Rattle.pm_cli.specs.declared.command.MapTask.TheVariants.{Print, CheckGeneral, OpenEulerian}
+use Rattle.pm_cli.specs.declared.command.Image.{Image}
+use Rattle.pm_cli.specs.declared.command.Image.TheVariants.{Canon, Medial, Unmedial, Dual}
 use Rattle.pm_cli.specs.declared.refusal.Refusal.{Refusal}
-use Rattle.pm_cli.specs.MapAnswers.{HasMap, MakesNoMap, rule_of_lines, rule_of_class, RefusesFile, broken, makes_none, RefusesMapFile, MapRelation, AnswersMap, told, no_map, breaks, Tells, HasCanonicalText, IsCountsText, CountsIn, HasOpenText, Opens, opened, no_dart, other_degree, task_relation}
+use Rattle.pm_cli.specs.MapAnswers.{HasMap, MakesNoMap, rule_of_lines, rule_of_class, RefusesFile, broken, makes_none, RefusesMapFile, MapRelation, AnswersMap, told, no_map, breaks, Tells, HasCanonicalText, HasTextOf, PrintsMedial, has_medial, no_medial, PrintsUnmedial, has_unmedial, no_unmedial, not_quartic, IsCountsText, CountsIn, HasOpenText, Opens, opened, no_dart, other_degree, image_relation, task_relation}
 use Rattle.pm_cli.specs.TreeFile.{IsTreeLine}
 use Rattle.pm_cli.specs.steps.MapReading.{rule_of_file}
 use Rattle.pm_cli.proofs.OneText.{one_text}
@@ -164,8 +172,59 @@ one_opens m _ _ rooted (other_degree dart x) (no_dart y) p q = absurd (omega (ar
 one_opens m _ _ rooted (other_degree dart x) (other_degree other y) p q =
     ap (λ (d : ℕ). Err (class.Vertex d)) (least_other_is_unique (structure_of m) (EvenUpTo MAX_DEGREE) dart other x y)
 
+-- images of a map that are the same, up to the names of darts, have one text
+one_image_text : (image : RotationSystem → RotationSystem → Type 0) (m : RotationSystem)
+    → ((a b : RotationSystem) → IsRootedMap a → IsRootedMap b → image m a → image m b → Same (structure_of a) (structure_of b))
+    → (one other : List ℕ) → HasTextOf image m one → HasTextOf image m other → one ≡ other
+one_image_text image m alike one other x y =
+    let same : x.is_text.canonical ≡ y.is_text.canonical =
+    (canonical_maps_tell x.other y.other x.is_text.canonical y.is_text.canonical x.rooted y.rooted x.is_text.is_canonical y.is_text.is_canonical).0
+    (alike x.other y.other x.rooted y.rooted x.is_image y.is_image) in
+    one_text y.is_text.canonical one other (subst (λ (k : RotationSystem). IsMapText k one) same x.is_text.is_text) y.is_text.is_text
+
+one_dual_text : (m : RotationSystem) (a b : List ℕ) → IsRootedMap m → HasTextOf IsDualOf m a → HasTextOf IsDualOf m b → a ≡ b
+one_dual_text m a b rooted x y = one_image_text IsDualOf m (λ one other first second is also. duals_alike m one other is also) a b x y where
+  duals_alike : (m one other : RotationSystem) → IsDualOf m one → IsDualOf m other → Same (structure_of one) (structure_of other)
+  duals_alike m one other is also = (
+    λ d. d,
+    record {
+      darts = is.as_long ∙ sym also.as_long;
+      renumbers = record { stays = λ k h. h; injective = λ j k hj hk e. e };
+      next = λ d h. (let l : d < length m.sigma = omega (arith, h, is.as_long) in is.entry d l ∙ sym (also.entry d l));
+      twin = λ d h. refl;
+      root = λ some. is.root ∙ sym also.root;
+    },
+  )
+
+one_medial_print : HasOneAnswer PrintsMedial
+one_medial_print m _ _ rooted (has_medial a some x) (has_medial b _ y) p q =
+    ap Ok (one_image_text IsMedialMap m (λ one other first second is also. subst (λ (k : RotationSystem). Same (structure_of one) (structure_of k)) (one_medial m one other rooted is also) (same_as_itself (structure_of one))) a b x y)
+one_medial_print m _ _ rooted (has_medial a some x) (no_medial none) p q = absurd (omega arith)
+one_medial_print m _ _ rooted (no_medial none) (has_medial b some y) p q = absurd (omega arith)
+one_medial_print m _ _ rooted (no_medial none) (no_medial also) p q = refl
+
+one_unmedial_print : HasOneAnswer PrintsUnmedial
+one_unmedial_print m _ _ rooted (has_unmedial a some x) (has_unmedial b _ y) p q =
+    ap Ok (one_image_text (λ k. IsUnmedialOf (structure_of k)) m
+    (λ one other first second is also. (unmedials_tell m m one other rooted rooted is also).0 (same_as_itself (structure_of m))) a b x y)
+one_unmedial_print m _ _ rooted (has_unmedial a some x) (no_unmedial none) p q = absurd (omega arith)
+one_unmedial_print m _ _ rooted (has_unmedial a some x) (not_quartic dart y) p q = absurd (y.breaks (unmedial_is_four m x.other rooted some x.is_image dart y.within))
+one_unmedial_print m _ _ rooted (no_unmedial none) (has_unmedial b some y) p q = absurd (omega arith)
+one_unmedial_print m _ _ rooted (no_unmedial none) (no_unmedial also) p q = refl
+one_unmedial_print m _ _ rooted (no_unmedial none) (not_quartic dart y) p q = absurd (omega (arith, y.within))
+one_unmedial_print m _ _ rooted (not_quartic dart x) (has_unmedial b some y) p q = absurd (x.breaks (unmedial_is_four m y.other rooted some y.is_image dart x.within))
+one_unmedial_print m _ _ rooted (not_quartic dart x) (no_unmedial none) p q = absurd (omega (arith, x.within))
+one_unmedial_print m _ _ rooted (not_quartic dart x) (not_quartic other y) p q =
+    ap (λ (d : ℕ). Err (class.Vertex d)) (least_other_is_unique (structure_of m) (Exactly 4) dart other x y)
+
+one_printing : (image : Image) → HasOneAnswer (let relation : MapRelation = image_relation image in relation.answers)
+one_printing Canon = one_telling HasCanonicalText one_canonical_text
+one_printing Medial = one_medial_print
+one_printing Unmedial = one_unmedial_print
+one_printing Dual = one_telling (HasTextOf IsDualOf) one_dual_text
+
 -- each task has one answer to each map
 pub one_task : (task : MapTask) → HasOneAnswer (let relation : MapRelation = task_relation task in relation.answers)
-one_task Canon = one_telling HasCanonicalText one_canonical_text
+one_task (Print image) = one_printing image
 one_task CheckGeneral = one_telling IsCountsText (λ m a b rooted x y. x ∙ sym y)
 one_task OpenEulerian = one_opens

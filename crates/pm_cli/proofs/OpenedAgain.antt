@@ -14,7 +14,8 @@ use Rattle.pm_cli.specs.Laws.{ClosedTreesOpen, OpenedMapsClose}
 use Rattle.pm_cli.specs.Closing.{ClosesTo, ClosesEulerian, closed, no_tree, matched}
 use Rattle.pm_cli.specs.MapAnswers.{HasMap, MapRelation, AnswersMap, told, no_map, breaks, HasCanonicalText, HasOpenText, Opens, opened, no_dart, other_degree, task_relation}
 use Rattle.pm_cli.specs.TreeFile.{HasWord}
-use Rattle.pm_cli.specs.declared.command.MapTask.TheVariants.{Canon, OpenEulerian}
+use Rattle.pm_cli.specs.declared.command.MapTask.TheVariants.{Print, OpenEulerian}
+use Rattle.pm_cli.specs.declared.command.Image.TheVariants.{Canon}
 use Rattle.pm_map.specs.declared.class_refusal.ClassRefusal.{ClassRefusal}
 use Rattle.pm_cli.proofs.OneMapAnswer.{one_map, same_value}
 
@@ -68,7 +69,7 @@ opened_again bytes text is =
 pub closed_again : OpenedMapsClose
 closed_again bytes text canonical opens canonizes =
     let x = told_map (task_relation OpenEulerian) bytes text (Ok text) opens refl in
-    let y = told_map (task_relation Canon) bytes canonical (Ok canonical) canonizes refl in
+    let y = told_map (task_relation (Print Canon)) bytes canonical (Ok canonical) canonizes refl in
     let same = one_map MAX_EDGES (λ m. Opens m (Ok text)) (λ m. HasCanonicalText m canonical) bytes x y in
     let tree = open_text y.map text (Ok text) (subst (λ (m : RotationSystem). Opens m (Ok text)) same.0 x.holds) refl in
     let map : RotationSystem = y.map in

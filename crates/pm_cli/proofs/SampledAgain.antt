@@ -13,7 +13,8 @@ use Rattle.pm_cli.specs.declared.class.Class.{Class}
 use Rattle.pm_cli.specs.declared.class.Class.TheVariants as class
 use Rattle.pm_cli.specs.declared.class.Size.{Size}
 use Rattle.pm_cli.specs.declared.class.Size.TheVariants as sizes
-use Rattle.pm_cli.specs.declared.command.MapTask.TheVariants.{Canon}
+use Rattle.pm_cli.specs.declared.command.MapTask.TheVariants.{Print}
+use Rattle.pm_cli.specs.declared.command.Image.TheVariants.{Canon}
 use Rattle.pm_cli.specs.declared.refusal.Refusal.{Refusal}
 use Rattle.pm_cli.specs.Classes.{InClass, class_at, sized, IsSize, class_of, AtSize, quartic_sampler, eulerian_sampler}
 use Rattle.pm_cli.specs.Laws.{UnsampledPairsReturn}
@@ -55,7 +56,7 @@ most class.Eulerian = refl
 pub sampled_again : AreSamplers → UnsampledPairsReturn
 sampled_again laws c bytes text canonical unsamples canonizes =
     let at : InClass = class_at c in
-    let y = told_map (task_relation Canon) bytes canonical (Ok canonical) canonizes refl in
+    let y = told_map (task_relation (Print Canon)) bytes canonical (Ok canonical) canonizes refl in
     let of : RotationSystem → List ℕ → Type 0 = λ m residue. HasUnsampledText (at.unsamples m residue) text in
     let x = subst (λ (limit : ℕ). HasPair bytes limit of) (most c) (unsampled_pair at bytes text (Ok text) unsamples refl) in
     let residue : List ℕ = x.residue in

@@ -22,6 +22,9 @@ no_words f (x ∷ xs) e = absurd (omega arith)
 pub empty : (n : ℕ) → true ≡ (n == 0) → n ≡ 0
 empty n e = grind (arith, nat_tests)
 
+pub filled : (n : ℕ) → false ≡ (n == 0) → 0 < n
+filled n e = grind (arith, nat_tests)
+
 -- some words
 pub some_words : {X : Type 0} (f : X → List ℕ) (xs : List X) → false ≡ (length xs == 0) → 0 < length (map f xs)
 some_words f xs e = let l = length-map xs f in let some = positive (length xs) e in omega arith where

@@ -4,6 +4,7 @@ use Rattle.std.specs.Prelude.{Option, None, Some, codes, if◌then◌else◌}
 use Rattle.std.specs.Str.{bytes_eq}
 use Rattle.pm_cli.specs.declared.class.Class.{Class}
 use Rattle.pm_cli.specs.declared.class.Class.TheVariants as class
+use Rattle.pm_cli.specs.declared.command.Image.TheVariants.{Canon, Medial, Unmedial, Dual}
 use Rattle.pm_cli.specs.declared.words.Verb.{Verb}
 use Rattle.pm_cli.specs.declared.words.Verb.TheVariants as verb
 use Rattle.pm_cli.specs.Commands.{verb_word, class_word}
@@ -22,13 +23,17 @@ one_value rows word_of found a b e = same_row (sym (found a) ∙ ap (looked_up r
 
 abbrev verbs : List (List ℕ × Verb)
 verbs =
-    (codes "close", verb.Close) ∷ (codes "open", verb.Open) ∷ (codes "canon", verb.Canon) ∷ (codes "check", verb.Check) ∷ (codes "sample", verb.Sample)
+    (codes "close", verb.Close) ∷ (codes "open", verb.Open) ∷ (codes "canon", verb.Print Canon) ∷ (codes "medial", verb.Print Medial) ∷ (codes "unmedial", verb.Print Unmedial) ∷ (codes "dual", verb.Print Dual)
+    ∷ (codes "check", verb.Check) ∷ (codes "sample", verb.Sample)
     ∷ (codes "unsample", verb.Unsample) ∷ (codes "draw", verb.Draw) ∷ []
 
 verb_found : (v : Verb) → looked_up verbs (verb_word v) ≡ Some v
 verb_found verb.Close = refl
 verb_found verb.Open = refl
-verb_found verb.Canon = refl
+verb_found (verb.Print Canon) = refl
+verb_found (verb.Print Medial) = refl
+verb_found (verb.Print Unmedial) = refl
+verb_found (verb.Print Dual) = refl
 verb_found verb.Check = refl
 verb_found verb.Sample = refl
 verb_found verb.Unsample = refl

@@ -8,7 +8,8 @@ use Rattle.pm_cli.specs.declared.command.Command.{Command}
 use Rattle.pm_cli.specs.declared.command.Command.TheVariants.{Reads, Makes}
 use Rattle.pm_cli.specs.declared.command.Reader.{Reader}
 use Rattle.pm_cli.specs.declared.command.Reader.TheVariants.{CloseEulerian, OfMap, Check, Unsample, Sample}
-use Rattle.pm_cli.specs.declared.command.MapTask.TheVariants.{Canon, CheckGeneral, OpenEulerian}
+use Rattle.pm_cli.specs.declared.command.MapTask.TheVariants.{Print, CheckGeneral, OpenEulerian}
+use Rattle.pm_cli.specs.declared.command.Image.TheVariants.{Canon, Medial, Unmedial, Dual}
 use Rattle.pm_cli.specs.declared.command.Maker.{Maker}
 use Rattle.pm_cli.specs.declared.command.Maker.TheVariants.{Draw}
 use Rattle.pm_cli.specs.declared.words.TheConstants.{MAX_RECORDS}
@@ -20,7 +21,10 @@ use Rattle.pm_cli.specs.ProfileWord.{profile_text}
 abbrev pub verb_word : Verb → List ℕ
 verb_word verb.Close = codes "close"
 verb_word verb.Open = codes "open"
-verb_word verb.Canon = codes "canon"
+verb_word (verb.Print Canon) = codes "canon"
+verb_word (verb.Print Medial) = codes "medial"
+verb_word (verb.Print Unmedial) = codes "unmedial"
+verb_word (verb.Print Dual) = codes "dual"
 verb_word verb.Check = codes "check"
 verb_word verb.Sample = codes "sample"
 verb_word verb.Unsample = codes "unsample"
@@ -45,7 +49,7 @@ number_words seed count = decimal seed ∷ decimal count ∷ []
 -- what the first word of a command tells to do, and the words behind it
 abbrev pub verb_of : Command → Verb
 verb_of (Reads CloseEulerian) = verb.Close
-verb_of (Reads (OfMap Canon)) = verb.Canon
+verb_of (Reads (OfMap (Print image))) = verb.Print image
 verb_of (Reads (OfMap CheckGeneral)) = verb.Check
 verb_of (Reads (OfMap OpenEulerian)) = verb.Open
 verb_of (Reads (Check class)) = verb.Check
@@ -55,7 +59,7 @@ verb_of (Makes (Draw seed count) size) = verb.Draw
 
 abbrev pub behind : Command → List (List ℕ)
 behind (Reads CloseEulerian) = codes "eulerian" ∷ []
-behind (Reads (OfMap Canon)) = []
+behind (Reads (OfMap (Print image))) = []
 behind (Reads (OfMap CheckGeneral)) = codes "general" ∷ []
 behind (Reads (OfMap OpenEulerian)) = codes "eulerian" ∷ []
 behind (Reads (Check class)) = class_word class ∷ []

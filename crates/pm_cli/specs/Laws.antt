@@ -3,7 +3,8 @@ use Rattle.std.specs.Prelude.{◌≡◌, ℕ, List, ◌++◌, Result, Ok, ◌≤
 use Rattle.pm_mapfile.specs.MapFile.{IsResidueLine}
 use Rattle.pm_cli.specs.declared.class.Class.{Class}
 use Rattle.pm_cli.specs.declared.class.Size.{Size}
-use Rattle.pm_cli.specs.declared.command.MapTask.TheVariants.{Canon, OpenEulerian}
+use Rattle.pm_cli.specs.declared.command.MapTask.TheVariants.{Print, OpenEulerian}
+use Rattle.pm_cli.specs.declared.command.Image.TheVariants.{Canon}
 use Rattle.pm_cli.specs.declared.command.Reader.{Reader}
 use Rattle.pm_cli.specs.declared.command.Reader.TheVariants.{CloseEulerian, OfMap, Unsample, Sample}
 use Rattle.pm_cli.specs.declared.refusal.Refusal.{Refusal}
@@ -24,7 +25,7 @@ ClosedTreesOpen = (bytes text : List ℕ) → AnswersReader CloseEulerian bytes 
 -- and what `open eulerian` answers to a map file, `close eulerian` answers as `canon` answers that file
 abbrev pub OpenedMapsClose : Type 0
 OpenedMapsClose =
-    (bytes text canonical : List ℕ) → AnswersReader (OfMap OpenEulerian) bytes (Ok text) → AnswersReader (OfMap Canon) bytes (Ok canonical)
+    (bytes text canonical : List ℕ) → AnswersReader (OfMap OpenEulerian) bytes (Ok text) → AnswersReader (OfMap (Print Canon)) bytes (Ok canonical)
     → AnswersReader CloseEulerian text (Ok canonical)
 
 -- for a size of the class, what is sampled of a file of choices is the text of a map and the residue line of a map file
@@ -41,7 +42,7 @@ pub record IsSampledAgain (class : Class) (map_file map_text choices_file : List
 -- what is unsampled of a map file, is sampled as the text that `canon` answers to that file, and its residue line
 abbrev pub UnsampledPairsReturn : Type 0
 UnsampledPairsReturn =
-    (class : Class) (bytes text canonical : List ℕ) → AnswersReader (Unsample class) bytes (Ok text) → AnswersReader (OfMap Canon) bytes (Ok canonical)
+    (class : Class) (bytes text canonical : List ℕ) → AnswersReader (Unsample class) bytes (Ok text) → AnswersReader (OfMap (Print Canon)) bytes (Ok canonical)
     → IsSampledAgain class bytes canonical text
 
 -- what a command answers to a file, by its words
@@ -55,7 +56,7 @@ ClosedTreesOpenByWords =
 
 abbrev pub OpenedMapsCloseByWords : Type 0
 OpenedMapsCloseByWords =
-    (bytes text canonical : List ℕ) → length text ≤ MAX_BYTES → AnswersByWords (OfMap OpenEulerian) bytes (Ok text) → AnswersByWords (OfMap Canon) bytes (Ok canonical)
+    (bytes text canonical : List ℕ) → length text ≤ MAX_BYTES → AnswersByWords (OfMap OpenEulerian) bytes (Ok text) → AnswersByWords (OfMap (Print Canon)) bytes (Ok canonical)
     → AnswersByWords CloseEulerian text (Ok canonical)
 
 pub record IsSampledByWords (class : Class) (map_file map_text choices_file : List ℕ) : Type 0 where
@@ -64,5 +65,5 @@ pub record IsSampledByWords (class : Class) (map_file map_text choices_file : Li
 
 abbrev pub UnsampledPairsReturnByWords : Type 0
 UnsampledPairsReturnByWords =
-    (class : Class) (bytes text canonical : List ℕ) → length text ≤ MAX_BYTES → AnswersByWords (Unsample class) bytes (Ok text) → AnswersByWords (OfMap Canon) bytes (Ok canonical)
+    (class : Class) (bytes text canonical : List ℕ) → length text ≤ MAX_BYTES → AnswersByWords (Unsample class) bytes (Ok text) → AnswersByWords (OfMap (Print Canon)) bytes (Ok canonical)
     → IsSampledByWords class bytes canonical text

@@ -1,8 +1,8 @@
 -- What the commands from a map file to a text answer.
-use Rattle.std.specs.Prelude.{◌≡◌, ℕ, ◌/◌, List, [], ◌∷◌, ◌++◌, length, Option, None, Some, Result, Ok, Err, codes, decimal}
+use Rattle.std.specs.Prelude.{◌≡◌, ℕ, ◌/◌, ◌<◌, List, [], ◌∷◌, ◌++◌, length, Option, None, Some, Result, Ok, Err, codes, decimal}
 use Rattle.pm_limits.specs.declared.TheConstants.{MAX_EDGES, MAX_DEGREE}
 use Rattle.pm_text.specs.Broken.{newline, IsBrokenLine}
-use Rattle.pm_map.specs.declared.admitted.Degrees.TheVariants.{EvenUpTo}
+use Rattle.pm_map.specs.declared.admitted.Degrees.TheVariants.{Exactly, EvenUpTo}
 use Rattle.pm_map.specs.declared.refusal.MapRefusal.{MapRefusal}
 use Rattle.pm_map.specs.declared.refusal.MapRefusal.TheVariants.{Memory as MemoryOfMap, TooMany, NotPermutation, NotConnected, Genus}
 use Rattle.pm_map.specs.declared.class_refusal.ClassRefusal.{ClassRefusal}
@@ -10,13 +10,17 @@ use Rattle.pm_map.specs.declared.class_refusal.ClassRefusal.TheVariants as class
 use Rattle.pm_map.specs.Canonical.{IsCanonicalOf}
 use Rattle.pm_map.specs.ClassRules.{IsLeastOther}
 use Rattle.pm_map.specs.Plane.{vertices, edges, faces}
-use Rattle.pm_map.specs.Rotation.{RotationSystem, structure_of}
+use Rattle.pm_map.specs.Rotation.{RotationSystem, structure_of, IsRootedMap}
+use Rattle.pm_map.specs.DualLaws.{IsDualOf}
+use Rattle.pm_medial.specs.Medial.{IsMedialMap, IsUnmedialOf}
 use Rattle.pm_mapfile.specs.Answers.{AnswersFile}
 use Rattle.pm_mapfile.specs.MapFile.{IsMapFile}
 use Rattle.pm_mapfile.specs.MapText.{IsMapText}
 use Rattle.pm_open.specs.Opening.{IsOpening}
 use Rattle.pm_cli.specs.declared.command.MapTask.{MapTask}
-use Rattle.pm_cli.specs.declared.command.MapTask.TheVariants.{Canon, CheckGeneral, OpenEulerian}
+use Rattle.pm_cli.specs.declared.command.MapTask.TheVariants.{Print, CheckGeneral, OpenEulerian}
+use Rattle.pm_cli.specs.declared.command.Image.{Image}
+use Rattle.pm_cli.specs.declared.command.Image.TheVariants.{Canon, Medial, Unmedial, Dual}
 use Rattle.pm_cli.specs.declared.refusal.Limit.TheVariants.{Edges}
 use Rattle.pm_cli.specs.declared.refusal.MapRule.TheVariants.{Permutation, Connected, Euler, Empty, Vertex, Face, Loop, Double}
 use Rattle.pm_cli.specs.declared.refusal.Refusal.{Refusal}
@@ -84,6 +88,24 @@ pub record HasCanonicalText (map : RotationSystem) (text : List ℕ) : Type 0 wh
   pub is_canonical : IsCanonicalOf map canonical
   pub is_text : IsMapText canonical text
 
+-- the text of the canonical map of another map, which is an image of the map
+pub record HasTextOf (image : RotationSystem → RotationSystem → Type 0) (map : RotationSystem) (text : List ℕ) : Type 0 where
+  pub other : RotationSystem
+  pub rooted : IsRootedMap other
+  pub is_image : image map other
+  pub is_text : HasCanonicalText other text
+
+-- a map with a dart is told its medial map
+pub data PrintsMedial (map : RotationSystem) : Result (List ℕ) ClassRefusal → Type 0 where
+  has_medial : (text : List ℕ) → 0 < length map.sigma → HasTextOf IsMedialMap map text → PrintsMedial map (Ok text)
+  no_medial : length map.sigma ≡ 0 → PrintsMedial map (Err class.Empty)
+
+-- a map with a dart whose vertices have degree 4 is told its unmedial, another the first rule that it breaks
+pub data PrintsUnmedial (map : RotationSystem) : Result (List ℕ) ClassRefusal → Type 0 where
+  has_unmedial : (text : List ℕ) → 0 < length map.sigma → HasTextOf (λ m. IsUnmedialOf (structure_of m)) map text → PrintsUnmedial map (Ok text)
+  no_unmedial : length map.sigma ≡ 0 → PrintsUnmedial map (Err class.Empty)
+  not_quartic : (dart : ℕ) → IsLeastOther (structure_of map) (Exactly 4) dart → PrintsUnmedial map (Err (class.Vertex dart))
+
 -- `ok V E F`: how many vertices, edges and faces the map has
 abbrev pub IsCountsText : RotationSystem → List ℕ → Type 0
 IsCountsText map text =
@@ -107,8 +129,15 @@ pub data Opens (map : RotationSystem) : Result (List ℕ) ClassRefusal → Type 
   no_dart : length map.sigma ≡ 0 → Opens map (Err class.Empty)
   other_degree : (dart : ℕ) → IsLeastOther (structure_of map) (EvenUpTo MAX_DEGREE) dart → Opens map (Err (class.Vertex dart))
 
+-- which map is printed for a map; a medial map has twice as many edges
+abbrev pub image_relation : Image → MapRelation
+image_relation Canon = record { limit = MAX_EDGES; answers = Tells HasCanonicalText }
+image_relation Medial = record { limit = MAX_EDGES / 2; answers = PrintsMedial }
+image_relation Unmedial = record { limit = MAX_EDGES; answers = PrintsUnmedial }
+image_relation Dual = record { limit = MAX_EDGES; answers = Tells (HasTextOf IsDualOf) }
+
 -- what is answered to any map; the greatest general map has half as many edges as the greatest of all
 abbrev pub task_relation : MapTask → MapRelation
-task_relation Canon = record { limit = MAX_EDGES; answers = Tells HasCanonicalText }
+task_relation (Print image) = image_relation image
 task_relation CheckGeneral = record { limit = MAX_EDGES / 2; answers = Tells IsCountsText }
 task_relation OpenEulerian = record { limit = MAX_EDGES; answers = Opens }

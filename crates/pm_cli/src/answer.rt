@@ -4,12 +4,12 @@ ghost use Rattle.pm_cli.specs.Answer.{AnswersReader};
 ghost use Rattle.pm_cli.specs.Commands.{IsReader};
 ghost use Rattle.pm_cli.specs.steps.Answering.{IsAnswerBy};
 
-use crate::canon::canonize;
 use crate::check::{check_class, check_general};
 use crate::class::{Class, Size};
 use crate::close::close_eulerian;
 use crate::command::{MapTask, Reader};
 use crate::open::open_eulerian;
+use crate::printing::print;
 use crate::refusal::Stop;
 use crate::sample::sample;
 use crate::unsample::unsample;
@@ -25,7 +25,7 @@ pub(crate) fn answer(alloc: Global, reader: &Reader, bytes: &[u8]) -> Result<Vec
 {
     match reader {
         Reader::CloseEulerian => close_eulerian(alloc, bytes),
-        Reader::OfMap(MapTask::Canon) => canonize(alloc, bytes),
+        Reader::OfMap(MapTask::Print(image)) => print(alloc, *image, bytes),
         Reader::OfMap(MapTask::CheckGeneral) => check_general(alloc, bytes),
         Reader::OfMap(MapTask::OpenEulerian) => open_eulerian(alloc, bytes),
         Reader::Check(Class::Quartic) => check_class::<Quartic>(alloc, bytes, Quartic::MOST_EDGES),

@@ -3,7 +3,7 @@ ghost use Rattle.pm_io.specs.declared.TheConstants.{MAX_BYTES as limit};
 ghost use Rattle.pm_cli.specs.Closing.{ClosesEulerian};
 ghost use Rattle.pm_cli.specs.steps.Answering.{IsAnswerBy};
 
-use crate::canon::canonical_text;
+use crate::printing::canonical_text;
 use crate::refusal::{Refusal, Stop, TreeRule};
 use crate::tree_file::read_tree_file;
 use pm_close::{CloseRefusal, close_tree};

@@ -28,12 +28,25 @@ pub enum Reader {
 /// What is answered to a map, whatever its class.
 #[derive(Clone, Copy)]
 pub enum MapTask {
-    /// `canon`: the canonical map of the map.
-    Canon,
+    /// Prints the canonical map of another map.
+    Print(Image),
     /// `check general`: how many vertices, edges and faces it has.
     CheckGeneral,
     /// `open eulerian`: the tree that the map opens to, where its vertices have even degrees.
     OpenEulerian,
+}
+
+/// Which map is printed for a map. The word of each is a command.
+#[derive(Clone, Copy)]
+pub enum Image {
+    /// `canon`: the map itself.
+    Canon,
+    /// `medial`: its medial map.
+    Medial,
+    /// `unmedial`: the map whose medial map it is.
+    Unmedial,
+    /// `dual`: its dual.
+    Dual,
 }
 
 /// What is done with a size.

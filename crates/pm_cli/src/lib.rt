@@ -2,7 +2,6 @@
 #![tactic(auto)]
 
 mod answer;
-mod canon;
 mod check;
 mod choices_file;
 mod class;
@@ -13,6 +12,7 @@ mod engine;
 mod laws;
 mod map_file;
 mod open;
+mod printing;
 mod profile_word;
 mod refusal;
 mod sample;
@@ -22,7 +22,7 @@ mod unsample;
 mod words;
 
 pub use class::{Class, Size};
-pub use command::{Command, Maker, MapTask, Reader};
+pub use command::{Command, Image, Maker, MapTask, Reader};
 pub use engine::run;
 pub use laws::{
     opening_undoes_closing, sampling_undoes_unsampling, words_and_bytes_have_one_answer,

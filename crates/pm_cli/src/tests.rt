@@ -111,6 +111,21 @@ canon x||2|usage 1
 canon|map 2 0/v 0 2 1 3/end/|6|map euler 0
 ";
 
+const IMAGES: &str = "\
+medial|map 1 0/v 0/v 1/end/|0|map 2 0/v 0 1 2 3/end/
+medial|map 0 0/end/|6|map empty
+medial|map 2 0/v 0 1 2 3|3|text 2
+medial 2||2|usage 1
+unmedial|map 2 0/v 0 1 2 3/end/|0|map 1 0/v 0/v 1/end/
+unmedial|map 2 0/v 0 2 3 1/end/|0|map 1 0/v 0 1/end/
+unmedial|map 1 0/v 0 1/end/|6|map vertex 0
+unmedial|map 0 0/end/|6|map empty
+dual|map 1 0/v 0/v 1/end/|0|map 1 0/v 0 1/end/
+dual|map 1 0/v 0 1/end/residue 9/|0|map 1 0/v 0/v 1/end/
+dual|map 0 0/end/|0|map 0 0/end/
+dual x||2|usage 1
+";
+
 const CHECK: &str = "\
 check general|map 2 0/v 0 1 2 3/end/|0|ok 1 2 3/
 check general|map 4 7/v 7 0 2 6/v 1 3 5 4/end/residue 0 0 1 0/|0|ok 2 4 4/
@@ -313,6 +328,7 @@ fn answers_and_refusals(rt: HostRuntime) -> Result<(), Fail> {
         CLOSE,
         OPEN,
         CANON,
+        IMAGES,
         CHECK,
         CHECK_MORE,
         SAMPLE,

@@ -14,7 +14,7 @@ ghost use Rattle.pm_cli.specs.Commands.{verb_word, class_word, size_word, size_w
 ghost use Rattle.pm_cli.specs.steps.Words.{StopsAt, IsOneOf, IsClassWord, IsCheckedWord, AreSizeWords, AreNumberWords, AreDrawWords, AreBehind, IsBehind};
 
 use crate::class::{Class, Size};
-use crate::command::{Command, Maker, MapTask, Reader};
+use crate::command::{Command, Image, Maker, MapTask, Reader};
 use crate::profile_word::read_profile;
 use pm_class::MapClass;
 use pm_euler::Quartic;
@@ -32,7 +32,7 @@ const _: () = prove!(MAX_RECORDS == 1_000);
 pub enum Verb {
     Close,
     Open,
-    Canon,
+    Print(Image),
     Check,
     Sample,
     Unsample,
@@ -58,7 +58,16 @@ impl Verb {
             return Some(Verb::Open);
         }
         if is_word(word, "canon") {
-            return Some(Verb::Canon);
+            return Some(Verb::Print(Image::Canon));
+        }
+        if is_word(word, "medial") {
+            return Some(Verb::Print(Image::Medial));
+        }
+        if is_word(word, "unmedial") {
+            return Some(Verb::Print(Image::Unmedial));
+        }
+        if is_word(word, "dual") {
+            return Some(Verb::Print(Image::Dual));
         }
         if is_word(word, "check") {
             return Some(Verb::Check);
@@ -271,9 +280,9 @@ impl Command {
                 Ok(()) => Ok(Ok(Command::Reads(Reader::OfMap(MapTask::OpenEulerian)))),
                 Err(matched) => Ok(Err(matched)),
             },
-            Verb::Canon => {
+            Verb::Print(image) => {
                 if words.is_empty() {
-                    Ok(Ok(Command::Reads(Reader::OfMap(MapTask::Canon))))
+                    Ok(Ok(Command::Reads(Reader::OfMap(MapTask::Print(image)))))
                 } else {
                     Ok(Err(0))
                 }

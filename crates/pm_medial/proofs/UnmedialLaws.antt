@@ -1,5 +1,5 @@
 -- Medial maps and unmedials undo each other, up to the names of darts.
-use Rattle.std.proofs.Common.{◌≡◌, ℕ, ◌*◌, ◌%◌, ◌<◌, inl, inr, Bool, length, slice_index, sym, ◌∙◌, arith}
+use Rattle.std.proofs.Common.{◌≡◌, ℕ, ◌*◌, ◌%◌, ◌<◌, inl, inr, Bool, length, slice_index, sym, ◌∙◌, arith, refl}
 use Rattle.std.proofs.lemmas.Bool.{cases_order}
 use Rattle.pm_map.specs.Structure.{Structure}
 use Rattle.pm_map.specs.Plane.{vertices}
@@ -7,13 +7,16 @@ use Rattle.pm_map.specs.Rotation.{RotationSystem, structure_of, IsRootedMap}
 use Rattle.pm_map.specs.CycleSize.{IsCycleSize}
 use Rattle.pm_map.proofs.SameMaps.{same_as_itself, same_symmetric, same_transitive}
 use Rattle.pm_map.proofs.CarriedStructure.{rooted_is_plane, vertices_carried}
+use Rattle.pm_map.specs.ClassRules.{HasAdmittedDegree}
+use Rattle.pm_map.specs.declared.admitted.Degrees.TheVariants.{Exactly}
+use Rattle.pm_map.proofs.CarriedSizes.{sizes_carried}
 use Rattle.pm_medial.specs.Medial.{IsUnmedialOf}
 use Rattle.pm_medial.specs.MedialLaws.{UnmedialOfMedialIsSame, MedialOfUnmedialIsSame, EachQuarticHasUnmedial, UnmedialsTell, UnmedialCounts}
 use Rattle.pm_medial.specs.Colouring.{IsColouring}
 use Rattle.pm_medial.specs.steps.Halved.{IsHalfMap}
 use Rattle.pm_open.specs.AcrossEdges.{AllDegreesAreEven}
 use Rattle.pm_medial.proofs.MedialStructure.{medial_is_structure}
-use Rattle.pm_medial.proofs.MedialCounts.{medial_counts, four_each}
+use Rattle.pm_medial.proofs.MedialCounts.{medial_counts, four_each, degrees_are_four}
 use Rattle.pm_medial.proofs.MedialSame.{medials_tell}
 use Rattle.pm_medial.proofs.HalfNames.{name, half_of_map, half_map, half_map_is}
 use Rattle.pm_medial.proofs.HalvedMaps.{medial_of, medial_of_is, to_medial, half_is_carried, half_is_plane}
@@ -90,3 +93,15 @@ unmedial_counts map unmedial rooted some un =
       omega (arith, darts, un.is_medial.darts),
       sym counts.vertices_are ∙ sym (vertices_carried un.is_same.0 (structure_of map) un.medial rooted.structure there un.is_same.1),
     )
+
+-- a map with an unmedial has degree 4 everywhere
+pub unmedial_is_four : (map unmedial : RotationSystem) → IsRootedMap map → 0 < length map.sigma → IsUnmedialOf (structure_of map) unmedial
+    → (dart : ℕ) → dart < length map.sigma → HasAdmittedDegree (structure_of map) (Exactly 4) dart
+unmedial_is_four map unmedial rooted some un dart h =
+    let four = degrees_are_four (structure_of unmedial) un.medial un.rooted.structure un.is_medial in
+    let there = medial_is_structure (structure_of unmedial) un.medial un.rooted.structure un.is_medial in
+    record {
+      degree = 4;
+      counted = sizes_carried un.medial (structure_of map) 4 there (same_symmetric (structure_of map) un.medial rooted.structure un.is_same) four dart h;
+      admitted = refl;
+    }

@@ -54,7 +54,7 @@ pub record AreDrawWords (words : List (List ℕ)) : Type 0 where
 abbrev pub AreBehind : Verb → List (List ℕ) → Type 0
 AreBehind verb.Close = IsOneOf (λ word. word ≡ class_word class.Eulerian)
 AreBehind verb.Open = IsOneOf (λ word. word ≡ class_word class.Eulerian)
-AreBehind verb.Canon = λ words. words ≡ []
+AreBehind (verb.Print image) = λ words. words ≡ []
 AreBehind verb.Check = IsOneOf IsCheckedWord
 AreBehind verb.Sample = AreSizeWords
 AreBehind verb.Unsample = IsOneOf IsClassWord
