@@ -1,3 +1,4 @@
+pub mod DualDegrees
 pub mod DualWritten
 pub mod HalfNames
 pub mod HalfSteps

@@ -1,5 +1,5 @@
 -- Medial maps and unmedials undo each other, up to the names of darts.
-use Rattle.std.proofs.Common.{◌≡◌, ℕ, ◌*◌, ◌%◌, ◌<◌, inl, inr, Bool, length, slice_index, sym, ◌∙◌, arith, refl}
+use Rattle.std.proofs.Common.{◌≡◌, ℕ, ◌*◌, ◌%◌, ◌<◌, inl, inr, Bool, length, slice_index, sym, ◌∙◌, arith, refl, subst}
 use Rattle.std.proofs.lemmas.Bool.{cases_order}
 use Rattle.pm_map.specs.Structure.{Structure}
 use Rattle.pm_map.specs.Plane.{vertices}
@@ -11,7 +11,7 @@ use Rattle.pm_map.specs.ClassRules.{HasAdmittedDegree}
 use Rattle.pm_map.specs.declared.admitted.Degrees.TheVariants.{Exactly}
 use Rattle.pm_map.proofs.CarriedSizes.{sizes_carried}
 use Rattle.pm_medial.specs.Medial.{IsUnmedialOf}
-use Rattle.pm_medial.specs.MedialLaws.{UnmedialOfMedialIsSame, MedialOfUnmedialIsSame, EachQuarticHasUnmedial, UnmedialsTell, UnmedialCounts}
+use Rattle.pm_medial.specs.MedialLaws.{UnmedialOfMedialIsSame, MedialOfUnmedialIsSame, EachQuarticHasUnmedial, OnlyQuarticHaveUnmedial, UnmedialsTell, UnmedialCounts}
 use Rattle.pm_medial.specs.Colouring.{IsColouring}
 use Rattle.pm_medial.specs.steps.Halved.{IsHalfMap}
 use Rattle.pm_open.specs.AcrossEdges.{AllDegreesAreEven}
@@ -105,3 +105,11 @@ unmedial_is_four map unmedial rooted some un dart h =
       counted = sizes_carried un.medial (structure_of map) 4 there (same_symmetric (structure_of map) un.medial rooted.structure un.is_same) four dart h;
       admitted = refl;
     }
+
+pub only_quartic_have_unmedial : OnlyQuarticHaveUnmedial
+only_quartic_have_unmedial map unmedial rooted some un = record {
+  plane = rooted_is_plane map rooted;
+  some = some;
+  count = refl;
+  degrees = λ d h. (let has = unmedial_is_four map unmedial rooted some un d h in subst (IsCycleSize (slice_index map.sigma) d) has.admitted has.counted);
+}

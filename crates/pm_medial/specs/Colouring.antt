@@ -20,7 +20,7 @@ pub record IsColouring (s : Structure) (colour : ℕ → Bool) : Type 0 where
 abbrev pub FacesHaveTwoColours : Type 0
 FacesHaveTwoColours = (s : Structure) → IsPlane s → ((colour : ℕ → Bool) × IsColouring s colour) ↔ AllDegreesAreEven s
 
--- a connected structure has one such colouring
+-- a plane structure has no two such colourings
 abbrev pub ColouringIsUnique : Type 0
 ColouringIsUnique = (s : Structure) (one other : ℕ → Bool) → IsPlane s → IsColouring s one → IsColouring s other → (d : ℕ) → d < s.darts → one d ≡ other d
 

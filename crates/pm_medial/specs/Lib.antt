@@ -1,4 +1,5 @@
 pub mod Colouring
+pub mod DualDegrees
 pub mod Medial
 pub mod MedialLaws
 pub mod steps

@@ -58,3 +58,8 @@ UnmedialsTell =
 abbrev pub UnmedialCounts : Type 0
 UnmedialCounts = (map unmedial : RotationSystem) → IsRootedMap map → 0 < length map.sigma → IsUnmedialOf (structure_of map) unmedial
     → (2 * length unmedial.sigma ≡ length map.sigma) × (edges (structure_of unmedial) ≡ vertices (structure_of map))
+
+-- only quartic maps have an unmedial
+abbrev pub OnlyQuarticHaveUnmedial : Type 0
+OnlyQuarticHaveUnmedial = (map unmedial : RotationSystem) → IsRootedMap map → 0 < length map.sigma → IsUnmedialOf (structure_of map) unmedial
+    → IsQuartic (structure_of map) (vertices (structure_of map))

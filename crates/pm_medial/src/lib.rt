@@ -10,7 +10,8 @@ mod unmedials;
 pub use colours::{ColourRefusal, colour};
 pub use duals::dual;
 pub use laws::{
-    faces_have_two_colours, medial_answer_is_unique, medial_is_quartic, unmedial_undoes_medial,
+    dual_exchanges_degrees, faces_have_two_colours, medial_answer_is_unique, medial_is_quartic,
+    unmedial_undoes_medial,
 };
 pub use medials::{MedialRefusal, medial};
 pub use unmedials::{UnmedialRefusal, unmedial};

@@ -82,7 +82,9 @@ fn twins_of(
     let mut twins = Vec::with_capacity(alloc, edges as usize)?;
     'edges: for edge in 0..edges {
         let plus = plus_of_edge(colours, edge);
-        twins.push(map.next(map.next(plus)) / 2)?;
+        let minus = map.next(plus);
+        let across = map.next(minus);
+        twins.push(across / 2)?;
     }
     Ok(twins)
 }
@@ -114,7 +116,9 @@ fn write_rotation(map: &RootedMap, colours: &[bool], darts: &[u32], rotation: &m
 {
     'edges: for edge in 0..map.edges() {
         let minus = map.twin(plus_of_edge(colours, edge));
-        let before = map.next(map.next(map.next(minus)));
+        let after = map.next(minus);
+        let across = map.next(after);
+        let before = map.next(across);
         rotation[darts[edge as usize] as usize] = darts[before as usize / 2];
     }
 }

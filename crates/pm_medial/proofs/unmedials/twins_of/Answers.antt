@@ -7,4 +7,4 @@ pub edges-preserved : goal.edges-preserved
 edges-preserved c =
     rw c.in_ok-push.ensures.items
     (edges_more c.args.map.now c.args.colours.now c.edges.twins.items c.edges.edge _ c.edges.invariant
-    (ap (λ p. p / 2) (c.next-in-edges.ensures ∙ ap (slice_index c.args.map.now.sigma) (c.next.ensures ∙ ap (slice_index c.args.map.now.sigma) c.plus_of_edge-plus.ensures))))
+    (ap (λ p. p / 2) (c.next-across.ensures ∙ ap (slice_index c.args.map.now.sigma) (c.next-minus.ensures ∙ ap (slice_index c.args.map.now.sigma) c.plus_of_edge-plus.ensures))))

@@ -10,5 +10,5 @@ edges-preserved c =
     (omega (arith, c.edges-test.true, c.edges-edge-end.ensures.edges, c.requires.half)) c.edges.invariant refl
     (ap (λ p. slice_index c.args.darts.now (p / 2))
     (c.next-before.ensures ∙ ap (slice_index c.args.map.now.sigma)
-    (c.next-in-edges.ensures ∙ ap (slice_index c.args.map.now.sigma)
-    (c.next.ensures ∙ ap (slice_index c.args.map.now.sigma) (c.twin-minus.ensures ∙ ap twin c.plus_of_edge.ensures)))))
+    (c.next-across.ensures ∙ ap (slice_index c.args.map.now.sigma)
+    (c.next-after.ensures ∙ ap (slice_index c.args.map.now.sigma) (c.twin-minus.ensures ∙ ap twin c.plus_of_edge.ensures)))))
