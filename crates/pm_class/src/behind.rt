@@ -77,12 +77,15 @@ pub fn sample_through<C: SampledThrough>(
 {
     C::is_exchanged();
     C::Behind::is_one_to_one();
-    let behind = C::Behind::sample_valid(alloc, size, choices)?;
-    let named = C::map_of(alloc, size, &behind.map)?;
+    let Sample {
+        map: behind,
+        residue,
+    } = C::Behind::sample_valid(alloc, size, choices)?;
+    let named = C::map_of(alloc, size, &behind)?;
+    drop(behind);
     // Its contract says that the map is a rooted one.
     let _edges = named.edges();
     let map = canon(alloc, &named)?;
-    let residue = behind.residue;
     Ok(Sample { map, residue })
 }
 

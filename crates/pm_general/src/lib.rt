@@ -6,3 +6,6 @@ mod general;
 
 pub use bipartite::Bipartite;
 pub use general::General;
+
+#[cfg(test)]
+mod tests;
