@@ -47,7 +47,7 @@ before_is_bipartite pairs m other rooted of is =
     }
 
 -- a map whose dual is eulerian is bipartite
-dual_is_bipartite : (pairs : List (ℕ × ℕ)) (m other : RotationSystem) → IsRootedMap m → IsDualOf m other → IsEulerian (structure_of other) pairs → IsBipartite (structure_of m) pairs
+pub dual_is_bipartite : (pairs : List (ℕ × ℕ)) (m other : RotationSystem) → IsRootedMap m → IsDualOf m other → IsEulerian (structure_of other) pairs → IsBipartite (structure_of m) pairs
 dual_is_bipartite pairs m other rooted of is = record {
   plane = rooted_is_plane m rooted;
   degrees = (eulerian_kept pairs (structure_of other) (dual (structure_of m)) (dual_is_rooted m other rooted of).structure (dual_is_structure (structure_of m) rooted.structure) (λ d. d, map_to_dual m other of) is).degrees;
@@ -123,15 +123,8 @@ module _ (m other : RotationSystem) (rooted : IsRootedMap m) (of : IsDualOf m ot
   after : IsRootedMap other
   after = dual_is_rooted m other rooted of
 
-  pub answer_of_dual : (answer : Result (List (ℕ × ℕ)) ClassRefusal) → IsEulerianAnswer other answer → IsBipartiteAnswer m (faced answer)
-  answer_of_dual (Ok pairs) is = (is.0, dual_is_bipartite pairs m other rooted of is.1)
-  answer_of_dual (Err (Vertex dart)) is = least_other_carried (structure_of other) (dual (structure_of m)) (EvenUpTo MAX_DEGREE) dart after.structure there (map_to_dual m other of) (dual_to_map m other of) is
-  answer_of_dual (Err Empty) is = sym of.as_long ∙ is
-  answer_of_dual (Err Memory) is = is
-  answer_of_dual (Err (Face dart)) is = is
-  answer_of_dual (Err (TooMany edges)) is = is
-  answer_of_dual (Err (Loop dart)) is = is
-  answer_of_dual (Err (Double dart)) is = is
+  pub face_of_dual : (dart : ℕ) → IsLeastOther (structure_of other) (EvenUpTo MAX_DEGREE) dart → IsLeastOther (dual (structure_of m)) (EvenUpTo MAX_DEGREE) dart
+  face_of_dual dart is = least_other_carried (structure_of other) (dual (structure_of m)) (EvenUpTo MAX_DEGREE) dart after.structure there (map_to_dual m other of) (dual_to_map m other of) is
 
   answer_to_dual : (answer : Result (List (ℕ × ℕ)) ClassRefusal) → IsBipartiteAnswer m answer → IsEulerianAnswer other (faced answer)
   answer_to_dual (Ok pairs) is = (is.0, dual_is_eulerian pairs m other rooted of is.1)

@@ -1,9 +1,14 @@
+use Rattle.std.proofs.Common.{rules}
 use Rattle.pm_class.proofs.ExchangedLemmas.{sampled_before}
 use Rattle.pm_class.proofs.behind.sample_through.Goals as goal
 
 pub returns : goal.returns
 returns g c =
-    sampled_before g.C.SampledThrough.image (g.C.Behind.MapClass.has c.args.size.now) (g.C.SampledThrough.contains c.args.size.now) (c.is_exchanged.ensures c.args.size.now c.requires.size)
-    (g.C.Behind.MapClass.choice_limits c.args.size.now) (g.C.Behind.MapClass.residue_limits c.args.size.now) (g.C.Behind.MapClass.samples c.args.size.now)
-    (c.is_one_to_one.ensures.one_to_one c.args.size.now c.requires.size) (c.is_one_to_one.ensures.kept c.args.size.now c.requires.size) c.args.choices.now c.in_ok-behind.field-0 c.in_ok-named.named c.in_ok-map.map
-    c.in_ok-behind.ensures c.edges-edges.ensures.valid c.in_ok-named.ensures c.in_ok-map.ensures
+    let exchange = c.is_exchanged.ensures c.args.size.now c.requires.size in
+    let law = c.is_one_to_one.ensures.one_to_one c.args.size.now c.requires.size in
+    let kept = c.is_one_to_one.ensures.kept c.args.size.now c.requires.size in
+    let sampled = c.in_ok-behind.ensures in
+    let rooted = c.edges-edges.ensures.valid in
+    let imaged = c.in_ok-named.ensures in
+    let canonical = c.in_ok-map.ensures in
+    search (rules, sampled_before)
