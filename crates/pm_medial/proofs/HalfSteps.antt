@@ -6,8 +6,8 @@ use Rattle.std.proofs.lemmas.List.{get_or_append_left, get_or_push, get_or-set_s
 use Rattle.pm_perm.specs.Permutation.{IsPermutationList}
 use Rattle.pm_map.specs.Rotation.{RotationSystem, structure_of, twin, IsRootedMap}
 use Rattle.pm_map.proofs.CarriedStructure.{rooted_is_plane}
-use Rattle.pm_open.specs.AcrossEdges.{AllDegreesAreEven}
-use Rattle.pm_open.specs.Distances.{AreFaceDistances}
+use Rattle.pm_distances.specs.AcrossEdges.{AllDegreesAreEven}
+use Rattle.pm_distances.specs.Distances.{AreFaceDistances}
 use Rattle.pm_medial.specs.Colouring.{AreColours}
 use Rattle.pm_medial.specs.steps.Halved.{edge_two_on, edge_before, IsHalfRotation}
 use Rattle.pm_medial.proofs.TwoColours.{even, distances_colour}

@@ -9,8 +9,8 @@ use Rattle.pm_map.specs.Plane.{IsPlane}
 use Rattle.pm_map.specs.FaceDistance.{IsFaceDistance, AreFaceLevels}
 use Rattle.pm_map.proofs.DistanceLemmas.{levels_are_distances}
 use Rattle.pm_map.proofs.DistanceRounds.{each_face_has_distance}
-use Rattle.pm_open.specs.AcrossEdges.{AllDegreesAreEven}
-use Rattle.pm_open.proofs.OneApart.{differ_by_one}
+use Rattle.pm_distances.specs.AcrossEdges.{AllDegreesAreEven}
+use Rattle.pm_distances.proofs.OneApart.{differ_by_one}
 use Rattle.pm_medial.specs.Colouring.{IsColouring, FacesHaveTwoColours, ColouringIsUnique}
 use Rattle.pm_medial.proofs.SignedDarts.{not_twice, next_turns}
 

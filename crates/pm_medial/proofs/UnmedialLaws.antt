@@ -14,7 +14,7 @@ use Rattle.pm_medial.specs.Medial.{IsUnmedialOf}
 use Rattle.pm_medial.specs.MedialLaws.{UnmedialOfMedialIsSame, MedialOfUnmedialIsSame, EachQuarticHasUnmedial, OnlyQuarticHaveUnmedial, UnmedialsTell, UnmedialCounts}
 use Rattle.pm_medial.specs.Colouring.{IsColouring}
 use Rattle.pm_medial.specs.steps.Halved.{IsHalfMap}
-use Rattle.pm_open.specs.AcrossEdges.{AllDegreesAreEven}
+use Rattle.pm_distances.specs.AcrossEdges.{AllDegreesAreEven}
 use Rattle.pm_medial.proofs.MedialStructure.{medial_is_structure}
 use Rattle.pm_medial.proofs.MedialCounts.{medial_counts, four_each, degrees_are_four}
 use Rattle.pm_medial.proofs.MedialSame.{medials_tell}

@@ -12,7 +12,7 @@ use Rattle.pm_map.specs.declared.admitted.Degrees.TheVariants.{Exactly, EvenUpTo
 use Rattle.pm_map.proofs.CycleSizes.{IsAway-short}
 use Rattle.pm_map.proofs.DegreeRules.{cycle_size_is_unique}
 use Rattle.pm_map.proofs.NumberedEdges.{dart_of_permutes, dart_of-same}
-use Rattle.pm_open.specs.AcrossEdges.{AllDegreesAreEven}
+use Rattle.pm_distances.specs.AcrossEdges.{AllDegreesAreEven}
 use Rattle.pm_medial.specs.Medial.{IsUnmedialOf}
 use Rattle.pm_medial.specs.Colouring.{AreColours, IsLeastOdd}
 use Rattle.pm_medial.specs.steps.Halved.{edge_two_on, edge_before, AreEdgesTwoOn, IsHalfRotation}

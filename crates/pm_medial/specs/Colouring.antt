@@ -8,7 +8,7 @@ use Rattle.pm_map.specs.CycleSize.{IsCycleSize}
 use Rattle.pm_medial.specs.declared.colours.ColourRefusal.{ColourRefusal}
 use Rattle.pm_medial.specs.declared.colours.ColourRefusal.TheVariants.{Memory, OddDegree}
 use Rattle.pm_map.specs.Plane.{IsPlane}
-use Rattle.pm_open.specs.AcrossEdges.{AllDegreesAreEven}
+use Rattle.pm_distances.specs.AcrossEdges.{AllDegreesAreEven}
 
 -- a colour for each dart, the same around each face and another one across each edge; that of the root's face is true
 pub record IsColouring (s : Structure) (colour : ℕ → Bool) : Type 0 where

@@ -1,11 +1,11 @@
 //! The two colours of the faces of a map with even degrees.
 ghost use Rattle.std.specs.Prelude.{◌≡◌, IfOk};
 ghost use Rattle.pm_map.specs.Rotation.{structure_of};
-ghost use Rattle.pm_open.specs.AcrossEdges.{AllDegreesAreEven};
+ghost use Rattle.pm_distances.specs.AcrossEdges.{AllDegreesAreEven};
 ghost use Rattle.pm_medial.specs.Colouring.{AreColours, IsColourAnswer};
 
+use pm_distances::face_distances;
 use pm_map::{Degrees, RootedMap};
-use pm_open::face_distances;
 use std::alloc::{AllocError, Global};
 
 /// Why the faces of a map don't have two colours.

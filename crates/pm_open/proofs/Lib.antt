@@ -1,11 +1,7 @@
-mod EdgeKinds
 mod EvenDegrees
-mod FaceSearch
 mod Folded
 pub mod KeptByOpening
-mod KeptEdges
-mod LevelsAlong
-pub mod OneApart
+mod Letters
 mod OneOpening
 mod Opened
 mod OpenedWalk
@@ -20,6 +16,3 @@ mod TreeWalk
 pub mod UniqueOpening
 mod UniqueWalk
 mod WalkLoop
-mod Walked
-mod Walks
-mod WholeWalk

@@ -5,7 +5,7 @@ use Rattle.pm_perm.specs.Pairs.{IsInvolutionBelow, IsNestedBelow}
 use Rattle.pm_map.specs.Structure.{Structure}
 use Rattle.pm_map.specs.Meeting.{IsVertexFrom}
 use Rattle.pm_walk.specs.Walk.{partner as partner_by}
-use Rattle.pm_open.proofs.Walked.{is_up, is_cut, across}
+use Rattle.pm_distances.proofs.Walked.{is_up, is_cut, across}
 
 -- the partner of a dart: on an edge that is cut its twin, on another one the dart itself
 abbrev pub partner : Structure → (ℕ → ℕ) → ℕ → ℕ

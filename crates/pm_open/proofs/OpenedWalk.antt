@@ -11,16 +11,12 @@ use Rattle.pm_map.specs.FaceDistance.{AreFaceLevels}
 use Rattle.pm_map.specs.Meeting.{IsVertexFrom}
 use Rattle.pm_map.proofs.UniqueMeeting.{vertex_begins}
 use Rattle.pm_map.proofs.CarriedMeeting.{AreBelow, vertex_below}
-use Rattle.pm_open.proofs.Walked.{is_up, is_cut, across, IsWalkedInOrder}
+use Rattle.pm_distances.proofs.Walked.{is_up, is_cut, across, IsWalkedInOrder}
 use Rattle.pm_open.proofs.Opened.{partner, IsOpened}
-use Rattle.pm_walk.proofs.Edges.{lesser_or_greater, cut_twin}
 use Rattle.pm_walk.proofs.NestedEdges.{across-involution, partner-involution, edges_nested}
-use Rattle.pm_open.proofs.LevelsAlong.{level-next, level-along_cut, level-along_kept, cut-up, cut-one}
-use Rattle.pm_open.proofs.KeptEdges.{kept-down}
-
--- across each edge the level changes by one
-pub record ChangesByOne (s : Structure) (level : ℕ → ℕ) : Type 0 where
-  pub changes : (d : ℕ) → d < s.darts → (level (s.twin d) ≡ suc (level d)) ⊎ (level d ≡ suc (level (s.twin d)))
+use Rattle.pm_distances.proofs.LevelsAlong.{level-next, level-along_cut, level-along_kept, cut-up}
+use Rattle.pm_distances.proofs.KeptEdges.{kept-down}
+use Rattle.pm_distances.proofs.OneApart.{ChangesByOne, changes-by_one}
 
 -- one dart more at a vertex: twice the darts that lead up, and the level at the first dart, are the darts and the level at the next
 up_more : (s : Structure) (level : ℕ → ℕ) (vertex : List ℕ) (first i : ℕ) → ChangesByOne s level → i < length vertex → slice_index vertex i < s.darts
@@ -83,21 +79,6 @@ half-up s level d vertex is levels one h from =
       plain : (count all first next i size : ℕ) → count ≡ all → next ≡ first → i ≡ size → 2 * count + first ≡ i + next → 2 * all ≡ size
       plain count all first next i size e back long whole = omega arith
 
--- where the other edges lead down from their lesser darts, the level changes by one across each edge
-pub changes-by_one : (s : Structure) (level : ℕ → ℕ) → IsStructure s
-    → ((d : ℕ) → d < s.darts → is_cut s level d ≡ false → d < s.twin d → level d ≡ suc (level (s.twin d))) → ChangesByOne s level
-changes-by_one s level is down = record {
-  changes = λ d h. elim (cases_Bool (is_cut s level d)) [
-    | inl cut ↦ cut-one s level d is h cut
-    | inr kept ↦ elim (lesser_or_greater s d is h) [
-      | inl less ↦ inr (down d h kept less)
-      | inr more ↦
-          let back : s.twin (s.twin d) ≡ d = is.twin_back d h in
-          inl (down (s.twin d) (is.twin_stays d h) (cut_twin s (is_up s level) d is h ∙ kept) (omega (arith, back, more)) ∙ ap (λ (e : ℕ). suc (level e)) back)
-    ]
-  ];
-}
-
 -- the root's edge leads up
 root-up : (s : Structure) (level : ℕ → ℕ) → IsStructure s → 0 < s.darts → AreFaceLevels s level → IsWalkedInOrder s level
     → ((d : ℕ) → d < s.darts → is_cut s level d ≡ false → d < s.twin d → level d ≡ suc (level (s.twin d))) → level (s.twin 0) ≡ 1
@@ -108,13 +89,6 @@ root-up s level is some levels walked down =
       | inl cut ↦ cut-up s level 0 cut (omega arith) ∙ ap suc root
       | inr kept ↦ absurd (let fall = down 0 some kept (omega arith) in omega (arith, root, fall))
     ]
-
--- across each edge the level changes by one
-pub one_apart : (s : Structure) (level : ℕ → ℕ) → IsStructure s → 0 < s.darts → HasEulerTwo s → AreFaceLevels s level → IsWalkedInOrder s level
-    → ((d degree : ℕ) → d < s.darts → IsCycleSize s.next d degree → degree % 2 ≡ 0) → ChangesByOne s level
-one_apart s level is some euler levels walked even =
-    let nested : IsNestedBelow s.darts (across s level) × IsNestedBelow s.darts (partner s level) = edges_nested s (is_up s level) is some euler walked in
-    changes-by_one s level is (λ d h kept less. kept-down s level d is levels walked nested.0 even h kept less)
 
 -- what the walk leaves in a plane structure with even degrees
 pub opened : (s : Structure) (level : ℕ → ℕ) → IsStructure s → 0 < s.darts → HasEulerTwo s → AreFaceLevels s level → IsWalkedInOrder s level

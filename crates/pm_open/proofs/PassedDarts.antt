@@ -13,13 +13,14 @@ use Rattle.pm_open.specs.declared.walking.Fate.{Fate}
 use Rattle.pm_open.specs.declared.walking.Fate.TheVariants.{Unmet, Cut, Kept}
 use Rattle.pm_open.specs.declared.walking.Step.{Step}
 use Rattle.pm_open.specs.steps.Passing.{IsPassed, cuts, keeps, meets_cut, meets_kept}
-use Rattle.pm_open.proofs.Walked.{is_up, is_cut, across, letter_of}
+use Rattle.pm_distances.proofs.Walked.{is_up, is_cut, across}
+use Rattle.pm_open.proofs.Letters.{letter_of}
 use Rattle.pm_walk.specs.Walk.{first_of}
-use Rattle.pm_open.proofs.EdgeKinds.{is_up_yes, is_up_no}
+use Rattle.pm_distances.proofs.EdgeKinds.{is_up_yes, is_up_no}
 use Rattle.pm_walk.proofs.Edges.{first_is_twin, first_is_own, first_is, first_below, first_below_twin, cut_twin, cut_is_out, across_cut, across_kept}
 use Rattle.pm_open.proofs.PlaceKinds.{letter_of_bud, letter_of_leaf, letter_of_open, letter_of_close}
-use Rattle.pm_open.proofs.UniqueWalk.{up_agrees}
-use Rattle.pm_open.proofs.Walks.{IsWalked}
+use Rattle.pm_distances.proofs.SameLevels.{up_agrees}
+use Rattle.pm_distances.proofs.Walks.{IsWalked}
 
 -- what is done with an edge where the walk meets it first
 abbrev pub settled : Bool → Fate

@@ -4,7 +4,8 @@ use Rattle.std.specs.Prelude.{slice_index}
 use Rattle.std.proofs.lemmas.Bool.{cases_lt, cases_eq, cases_Bool, lt-ltb, le-ltb}
 use Rattle.pm_trees.specs.declared.letters.TheConstants.{LEAF, BUD, OPEN, CLOSE}
 use Rattle.pm_map.specs.Structure.{Structure, IsStructure}
-use Rattle.pm_open.proofs.Walked.{is_up, is_cut, letter_of, IsSpelled}
+use Rattle.pm_distances.proofs.Walked.{is_up, is_cut}
+use Rattle.pm_open.proofs.Letters.{letter_of, IsSpelled}
 use Rattle.pm_walk.proofs.Edges.{cut_is_out}
 
 -- the edge of the root is cut

@@ -19,9 +19,10 @@ use Rattle.pm_close.proofs.RootedClosure.{has_across}
 use Rattle.pm_close.proofs.SomeClosure.{each_tree_closes}
 use Rattle.pm_open.specs.Opening.{IsOpening}
 use Rattle.pm_open.specs.Laws.{EachMapOpens}
-use Rattle.pm_open.proofs.EvenDegrees.{HasEvenDegrees, each_degree_carried}
-use Rattle.pm_open.proofs.Walked.{IsSpelled}
-use Rattle.pm_open.proofs.Walks.{IsWalked, each_map_is_walked}
+use Rattle.pm_distances.proofs.EachDegree.{each_degree_carried}
+use Rattle.pm_open.proofs.EvenDegrees.{HasEvenDegrees}
+use Rattle.pm_open.proofs.Letters.{IsSpelled}
+use Rattle.pm_distances.proofs.Walks.{IsWalked, each_map_is_walked}
 use Rattle.pm_open.proofs.OpenedWalk.{opened}
 use Rattle.pm_open.proofs.Spelled.{spells_a_word, spells_a_tree}
 

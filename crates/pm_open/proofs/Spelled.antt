@@ -11,7 +11,8 @@ use Rattle.pm_map.specs.Structure.{Structure, IsStructure}
 use Rattle.pm_map.specs.FaceDistance.{AreFaceLevels}
 use Rattle.pm_close.specs.Closure.{IsClosure}
 use Rattle.pm_open.proofs.EvenDegrees.{HasEvenDegrees}
-use Rattle.pm_open.proofs.Walked.{IsWalkedInOrder, letter_of, IsSpelled}
+use Rattle.pm_distances.proofs.Walked.{IsWalkedInOrder}
+use Rattle.pm_open.proofs.Letters.{letter_of, IsSpelled}
 use Rattle.pm_open.proofs.Opened.{IsOpened}
 use Rattle.pm_open.proofs.PlaceKinds.{root_cut}
 use Rattle.pm_open.proofs.SpelledPairs.{IsReadAlong, plant_free, is_closure, in_order}

@@ -18,7 +18,7 @@ use Rattle.pm_close.proofs.TwinLemmas.{within}
 use Rattle.pm_close.proofs.NodeVertices.{node_vertices}
 use Rattle.pm_close.proofs.Heads.{vertex_steps, vertex_size, vertex_length, root_head, head_is, one_head}
 use Rattle.pm_open.proofs.EvenDegrees.{HasEvenDegrees}
-use Rattle.pm_open.proofs.Walked.{is_up, is_cut}
+use Rattle.pm_distances.proofs.Walked.{is_up, is_cut}
 use Rattle.pm_walk.proofs.Edges.{cut_twin, cut_is_out}
 use Rattle.pm_open.proofs.PlaceKinds.{a_plant, a_bud, a_leaf, an_open, a_close}
 use Rattle.pm_open.proofs.SpelledPairs.{IsReadAlong, kind_of, in_order}

@@ -15,7 +15,8 @@ use Rattle.pm_match.proofs.Meeting.{IsMeeting, pair_first, pair_unique}
 use Rattle.pm_map.specs.Structure.{Structure, IsStructure}
 use Rattle.pm_close.specs.Closure.{IsClosure, IsAcross, from_open, from_close, from_letter, AreTwins, edge_down, edge_up, pair_bud, pair_leaf, free_leaves}
 use Rattle.pm_close.proofs.TwinLemmas.{two_letters, by_letter, twins_back}
-use Rattle.pm_open.proofs.Walked.{is_up, is_cut, across, IsWalkedInOrder, IsSpelled}
+use Rattle.pm_distances.proofs.Walked.{is_up, is_cut, across, IsWalkedInOrder}
+use Rattle.pm_open.proofs.Letters.{IsSpelled}
 use Rattle.pm_open.proofs.Opened.{partner, IsOpened}
 use Rattle.pm_walk.proofs.Edges.{cut_twin, across_cut, across_kept, partner_cut}
 use Rattle.pm_open.proofs.PlaceKinds.{IsKind, a_plant, a_bud, a_leaf, an_open, a_close, kind}

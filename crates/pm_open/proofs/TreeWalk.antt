@@ -22,8 +22,9 @@ use Rattle.pm_close.proofs.ClosureLemmas.{bracketing_across, succ_inside, succ_l
 use Rattle.pm_close.proofs.ClosureStructure.{closure_structure}
 use Rattle.pm_close.proofs.LowWords.{low_word, leaves_of, buds_of}
 use Rattle.pm_close.proofs.RootedClosure.{has_across}
-use Rattle.pm_open.proofs.Walked.{is_cut, across, letter_of, IsWalkedInOrder, IsSpelled}
-use Rattle.pm_open.proofs.EdgeKinds.{cut_at_own, kept_at_own, cut_at_twin, kept_at_twin}
+use Rattle.pm_distances.proofs.Walked.{is_cut, across, IsWalkedInOrder}
+use Rattle.pm_open.proofs.Letters.{letter_of, IsSpelled}
+use Rattle.pm_distances.proofs.EdgeKinds.{cut_at_own, kept_at_own, cut_at_twin, kept_at_twin}
 use Rattle.pm_open.proofs.TreeLevels.{IsMeasured, IsEdge, brackets, cut, edge, level_around}
 
 -- the place behind one that isn't before p is 0 or after p

@@ -12,7 +12,8 @@ use Rattle.pm_close.proofs.ClosureStructure.{closure_structure}
 use Rattle.pm_open.specs.Laws.{HasOneOpening}
 use Rattle.pm_open.specs.Opening.{IsOpening}
 use Rattle.pm_open.proofs.TreeWalk.{tree_is_walked, tree_has_levels}
-use Rattle.pm_open.proofs.UniqueWalk.{levels_carried, spelled_is_one}
+use Rattle.pm_distances.proofs.SameLevels.{levels_carried}
+use Rattle.pm_open.proofs.UniqueWalk.{spelled_is_one}
 
 -- balanced trees whose closures on places are the same are one tree
 pub closures_tell_trees : (one other : List ℕ) (a b : Structure) → IsBlossoming one → IsBlossoming other → IsBalanced (contour one) → IsBalanced (contour other)

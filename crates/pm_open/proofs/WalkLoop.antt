@@ -15,13 +15,13 @@ use Rattle.pm_map.proofs.DistanceLemmas.{levels_are_distances}
 use Rattle.pm_open.specs.declared.walking.Fate.{Fate}
 use Rattle.pm_open.specs.declared.walking.Fate.TheVariants.{Unmet}
 use Rattle.pm_open.specs.declared.walking.Step.{Step}
-use Rattle.pm_open.specs.Distances.{AreFaceDistances}
+use Rattle.pm_distances.specs.Distances.{AreFaceDistances}
 use Rattle.pm_open.specs.Opening.{IsOpening}
 use Rattle.pm_open.specs.steps.Passing.{IsPassed, cuts, keeps, meets_cut, meets_kept}
-use Rattle.pm_open.proofs.Walked.{letter_of}
+use Rattle.pm_open.proofs.Letters.{letter_of}
 use Rattle.pm_open.proofs.PassedDarts.{ArePassed, IsStep, stepped, next_inside, passed_more}
 use Rattle.pm_open.proofs.SomeOpening.{opening_of_walk, even_degrees}
-use Rattle.pm_open.proofs.Walks.{IsWalked, each_map_is_walked}
+use Rattle.pm_distances.proofs.Walks.{IsWalked, each_map_is_walked}
 
 -- a map with a dart, and the distances of its faces
 pub record IsMeasured (map : RotationSystem) (distances : List ℕ) : Type 0 where

@@ -15,7 +15,7 @@ use Rattle.pm_close.specs.declared.closing.Closed.{Closed}
 use Rattle.pm_close.specs.Closing.{ClosesTo}
 use Rattle.pm_close.specs.Closure.{IsClosure}
 use Rattle.pm_close.specs.Level.{IsLevel}
-use Rattle.pm_open.specs.Distances.{AreFaceDistances}
+use Rattle.pm_distances.specs.Distances.{AreFaceDistances}
 use Rattle.pm_open.specs.Opening.{IsOpening}
 
 -- a rooted map with a dart whose vertices have even degrees within the limit has an opening

@@ -1,5 +1,3 @@
-pub mod AcrossEdges
-pub mod Distances
 pub mod Laws
 pub mod Opening
 pub mod steps

@@ -1,2 +1,1 @@
-pub mod DistanceSearch
 pub mod Passing

@@ -1,5 +1,4 @@
 //! Laws of openings, for the crates above.
-ghost use Rattle.pm_open.specs.AcrossEdges.{DistancesDifferByOne};
 ghost use Rattle.pm_open.specs.Opening.{OpeningHasOneAnswer};
 ghost use Rattle.pm_open.specs.Laws.{ClosedLevelsAreDistances, EachMapOpens, HasOneOpening, LevelsAreFaceDistances, OpeningKeepsDegrees, OpeningKeepsEdges};
 
@@ -22,12 +21,6 @@ pub fn opening_answer_is_unique()
 pub fn levels_are_face_distances()
     ensures levels { LevelsAreFaceDistances }
     ensures closed { ClosedLevelsAreDistances }
-{}
-
-/// A law: where all degrees are even, however great, the distances of the two faces of an edge from the root's face differ
-/// by exactly one.
-pub fn face_distances_differ_by_one()
-    ensures { DistancesDifferByOne }
 {}
 
 /// A law: of each degree a map has as many vertices as its opening has nodes, and it has as many edges.

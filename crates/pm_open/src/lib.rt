@@ -1,15 +1,12 @@
 //! Opening: from a plane map with even degrees back to the balanced tree that closes to it.
 #![tactic(auto)]
 
-mod distances;
 mod laws;
 mod opening;
 mod walking;
 
-pub use distances::face_distances;
 pub use laws::{
-    each_map_opens_once, face_distances_differ_by_one, levels_are_face_distances,
-    opening_answer_is_unique, openings_keep_degrees,
+    each_map_opens_once, levels_are_face_distances, opening_answer_is_unique, openings_keep_degrees,
 };
 pub use opening::{OpenRefusal, open_map};
 

@@ -2,8 +2,8 @@ ghost use Rattle.std.specs.Prelude.{◌≡◌, ◌<◌, length};
 ghost use Rattle.pm_open.specs.Opening.{IsOpenAnswer};
 ghost use Rattle.pm_open.specs.declared.opening.OpenRefusal.TheVariants.{Memory};
 
-use crate::distances::face_distances;
 use crate::walking::word_along;
+use pm_distances::face_distances;
 use pm_limits::MAX_DEGREE;
 use pm_map::{Degrees, RootedMap};
 use pm_trees::Tree;

@@ -4,7 +4,7 @@ ghost use Rattle.pm_limits.specs.declared.TheConstants.{MAX_DEGREE};
 ghost use Rattle.pm_map.specs.ClassRules.{AllAdmitted};
 ghost use Rattle.pm_map.specs.Rotation.{structure_of};
 ghost use Rattle.pm_map.specs.declared.admitted.Degrees.TheVariants.{EvenUpTo};
-ghost use Rattle.pm_open.specs.Distances.{AreFaceDistances};
+ghost use Rattle.pm_distances.specs.Distances.{AreFaceDistances};
 ghost use Rattle.pm_open.specs.Opening.{IsOpening};
 ghost use Rattle.pm_open.specs.steps.Passing.{IsPassed};
 

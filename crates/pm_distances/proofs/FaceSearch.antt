@@ -15,8 +15,8 @@ use Rattle.pm_map.proofs.CarriedStructure.{face_permutes}
 use Rattle.pm_map.proofs.DistanceLemmas.{face_below, face_back, levels_are_distances}
 use Rattle.pm_map.proofs.SearchLemmas.{WalksFace-begins, WalksFace-step, MarksFace-start, in_cycle-marked}
 use Rattle.pm_map.proofs.StandsLemmas.{Stands-get_or, cases_push}
-use Rattle.pm_open.specs.Distances.{AreFaceDistances}
-use Rattle.pm_open.specs.steps.DistanceSearch.{WritesFace, FindsFace, IsListed, FindsWhole, IsFoundFrom, FindsFromRoot, IsRising, IsFinding}
+use Rattle.pm_distances.specs.Distances.{AreFaceDistances}
+use Rattle.pm_distances.specs.steps.DistanceSearch.{WritesFace, FindsFace, IsListed, FindsWhole, IsFoundFrom, FindsFromRoot, IsRising, IsFinding}
 
 -- a walk begins
 pub WritesFace-begins : (sigma : List ℕ) (start distance : ℕ) (marks : List Bool) (distances darts : List ℕ) → start < length sigma

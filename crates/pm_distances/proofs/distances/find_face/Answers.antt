@@ -1,7 +1,7 @@
 use Rattle.std.proofs.Common.{rules, arith}
 use Rattle.pm_perm.proofs.Walks.{unmarked-falls}
-use Rattle.pm_open.proofs.FaceSearch.{WritesFace-step}
-use Rattle.pm_open.proofs.distances.find_face.Goals as goal
+use Rattle.pm_distances.proofs.FaceSearch.{WritesFace-step}
+use Rattle.pm_distances.proofs.distances.find_face.Goals as goal
 
 pub walk-smaller : goal.walk-smaller
 walk-smaller c = unmarked-falls _ _ _ c.walk.invariant.walk.within (omega (arith, c.walk.invariant.walk.within, c.walk.invariant.walk.size, c.requires.found_size)) (search rules)

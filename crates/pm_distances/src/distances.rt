@@ -3,8 +3,8 @@ ghost use Rattle.std.specs.Prelude.{◌≡◌, ◌+◌, ◌<◌, ◌≤◌, leng
 ghost use Rattle.pm_map.specs.Rotation.{IsRootedMap, structure_of};
 ghost use Rattle.pm_map.specs.steps.Marks.{NoneMarked};
 ghost use Rattle.pm_map.specs.steps.Search.{work_left};
-ghost use Rattle.pm_open.specs.Distances.{AreFaceDistances};
-ghost use Rattle.pm_open.specs.steps.DistanceSearch.{FindsFace, IsFinding};
+ghost use Rattle.pm_distances.specs.Distances.{AreFaceDistances};
+ghost use Rattle.pm_distances.specs.steps.DistanceSearch.{FindsFace, IsFinding};
 
 use pm_map::RootedMap;
 use std::alloc::{AllocError, Global};

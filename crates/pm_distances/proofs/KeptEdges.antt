@@ -10,12 +10,12 @@ use Rattle.pm_map.specs.Structure.{Structure, IsStructure}
 use Rattle.pm_map.specs.CycleSize.{IsCycleSize}
 use Rattle.pm_map.specs.FaceDistance.{AreFaceLevels}
 use Rattle.pm_map.proofs.DegreeCounts.{HasSize, has_size, degree_counts_darts}
-use Rattle.pm_open.proofs.Walked.{is_up, is_cut, across, IsWalkedInOrder}
+use Rattle.pm_distances.proofs.Walked.{is_up, is_cut, across, IsWalkedInOrder}
 use Rattle.pm_perm.proofs.EvenCounts.{even_in_pairs, even_in_cycles}
 use Rattle.pm_perm.proofs.Stretches.{is_between, between-in, between-bounds, count_below-between, stretch-kept}
 use Rattle.pm_walk.proofs.Edges.{cut_twin, across_kept}
 use Rattle.pm_walk.proofs.NestedEdges.{across-involution, next-across}
-use Rattle.pm_open.proofs.LevelsAlong.{kept-not_up, level-parity}
+use Rattle.pm_distances.proofs.LevelsAlong.{kept-not_up, level-parity}
 
 -- a test as a number, which tells it
 number_of : Bool → ℕ

@@ -6,7 +6,7 @@ use Rattle.pm_perm.specs.Pairs.{IsRingBelow}
 use Rattle.pm_perm.proofs.Renumbered.{ring-mod}
 use Rattle.pm_map.specs.Structure.{Structure, IsStructure}
 use Rattle.pm_map.specs.FaceDistance.{AreFaceLevels}
-use Rattle.pm_open.proofs.Walked.{is_up, is_cut, IsWalkedInOrder}
+use Rattle.pm_distances.proofs.Walked.{is_up, is_cut, IsWalkedInOrder}
 use Rattle.pm_walk.proofs.Edges.{lesser_or_greater, cut_is_out, cut_is_twin_out, across_cut, across_kept}
 
 -- the next dart around a vertex has the level of the twin

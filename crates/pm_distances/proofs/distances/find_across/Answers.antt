@@ -4,9 +4,9 @@ use Rattle.std.proofs.lemmas.Result.{on_ok_weaker}
 use Rattle.pm_map.specs.Rotation.{twin}
 use Rattle.pm_map.specs.steps.Marks.{IsMarked}
 use Rattle.pm_map.proofs.StandsLemmas.{Stands-get_or}
-use Rattle.pm_open.specs.steps.DistanceSearch.{FindsFace}
-use Rattle.pm_open.proofs.FaceSearch.{IsFinding-found, IsFinding-more, IsFinding-few}
-use Rattle.pm_open.proofs.distances.find_across.Goals as goal
+use Rattle.pm_distances.specs.steps.DistanceSearch.{FindsFace}
+use Rattle.pm_distances.proofs.FaceSearch.{IsFinding-found, IsFinding-more, IsFinding-few}
+use Rattle.pm_distances.proofs.distances.find_across.Goals as goal
 
 pub returns-then-found-other-clause-finding : goal.returns-then-found-other-clause-finding
 returns-then-found-other-clause-finding c =

@@ -1,7 +1,7 @@
 use Rattle.std.proofs.Common.{subst, arith}
-use Rattle.pm_open.specs.steps.DistanceSearch.{FindsFace}
-use Rattle.pm_open.proofs.FaceSearch.{IsFinding-begins, IsFinding-all}
-use Rattle.pm_open.proofs.distances.find_all.Goals as goal
+use Rattle.pm_distances.specs.steps.DistanceSearch.{FindsFace}
+use Rattle.pm_distances.proofs.FaceSearch.{IsFinding-begins, IsFinding-all}
+use Rattle.pm_distances.proofs.distances.find_all.Goals as goal
 
 pub search-init : goal.search-init
 search-init c =

@@ -2,7 +2,7 @@
 use Rattle.std.proofs.Common.{◌≡◌, ℕ, suc, ◌<◌, ◌≤◌, true, false, ap, ◌∙◌, eq-eqb, ne_eqb, arith}
 use Rattle.pm_map.specs.Structure.{Structure}
 use Rattle.pm_walk.proofs.Edges.{cut_is_out, cut_is_twin_out}
-use Rattle.pm_open.proofs.Walked.{is_up, is_cut}
+use Rattle.pm_distances.proofs.Walked.{is_up, is_cut}
 
 pub is_up_yes : (s : Structure) (level : ℕ → ℕ) (d : ℕ) → level (s.twin d) ≡ suc (level d) → is_up s level d ≡ true
 is_up_yes s level d e = eq-eqb (level (s.twin d)) (suc (level d)) e

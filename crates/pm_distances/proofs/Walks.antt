@@ -5,8 +5,8 @@ use Rattle.pm_map.specs.FaceDistance.{AreFaceLevels}
 use Rattle.pm_map.proofs.DistanceLemmas.{levels_carried}
 use Rattle.pm_walk.proofs.Cutting.{HasCut, has_cut}
 use Rattle.pm_walk.proofs.Numbered.{IsWhole, IsNumberedAlong, numbered_along, walked_same}
-use Rattle.pm_open.proofs.Walked.{is_up, IsWalkedInOrder}
-use Rattle.pm_open.proofs.WholeWalk.{IsDecidedWalk, met_reached, all_met}
+use Rattle.pm_distances.proofs.Walked.{is_up, IsWalkedInOrder}
+use Rattle.pm_distances.proofs.WholeWalk.{IsDecidedWalk, met_reached, all_met}
 
 -- a structure is the same as one with levels whose darts are numbered along the walk, with the same levels
 pub record IsWalked (s : Structure) (level : ℕ → ℕ) : Type 0 where

@@ -1,7 +1,7 @@
 use Rattle.std.proofs.Common.{◌-◌}
 use Rattle.pm_map.specs.steps.Search.{work_left}
-use Rattle.pm_open.specs.steps.DistanceSearch.{IsFinding}
-use Rattle.pm_open.proofs.distances.find_all.Given as goal
+use Rattle.pm_distances.specs.steps.DistanceSearch.{IsFinding}
+use Rattle.pm_distances.proofs.distances.find_all.Given as goal
 
 abbrev pub invariant-search : goal.invariant-search
 invariant-search l = IsFinding l.map l.found l.distances l.darts.items l.place

@@ -8,7 +8,7 @@ use Rattle.pm_perm.proofs.SameCycle.{in_cycle-reached}
 use Rattle.pm_map.specs.Structure.{Structure, IsStructure, face_next}
 use Rattle.pm_map.specs.FaceDistance.{AreInOneFace, AreFaceLevels}
 use Rattle.pm_map.proofs.DistanceLemmas.{face_back, face_below, levels-around}
-use Rattle.pm_open.proofs.Walked.{is_up}
+use Rattle.pm_distances.proofs.Walked.{is_up}
 use Rattle.pm_walk.proofs.Cutting.{IsCutting, IsDecided, step_by, dart_after, step_by-cut, step_by-kept, step_by-permutes}
 
 -- numbers below a bound have a greatest value

@@ -1,0 +1,3 @@
+pub mod AcrossEdges
+pub mod Distances
+pub mod steps

@@ -1,5 +1,0 @@
-use Rattle.pm_open.proofs.OneApart.{differ_by_one}
-use Rattle.pm_open.proofs.laws.face_distances_differ_by_one.Goals as goal
-
-pub returns : goal.returns
-returns c = differ_by_one
