@@ -4,9 +4,10 @@ use Rattle.pm_map.specs.Structure.{Structure, IsStructure, CarriesTo}
 use Rattle.pm_map.specs.FaceDistance.{AreFaceLevels}
 use Rattle.pm_map.proofs.DistanceLemmas.{levels_carried}
 use Rattle.pm_walk.proofs.Cutting.{HasCut, has_cut}
+use Rattle.pm_walk.proofs.MetDarts.{met_reached}
 use Rattle.pm_walk.proofs.Numbered.{IsWhole, IsNumberedAlong, numbered_along, walked_same}
 use Rattle.pm_distances.proofs.Walked.{is_up, IsWalkedInOrder}
-use Rattle.pm_distances.proofs.WholeWalk.{IsDecidedWalk, met_reached, all_met}
+use Rattle.pm_distances.proofs.WholeWalk.{GoesByLevels, all_met}
 
 -- a structure is the same as one with levels whose darts are numbered along the walk, with the same levels
 pub record IsWalked (s : Structure) (level : ℕ → ℕ) : Type 0 where
@@ -39,14 +40,8 @@ numbered-walked s level is levels n =
 -- the walk meets every dart
 whole : (s : Structure) (level : ℕ → ℕ) (cut : HasCut s (is_up s level) s.darts) → IsStructure s → 0 < s.darts → AreFaceLevels s level → IsWhole s (is_up s level) cut.cut
 whole s level c is some levels =
-    let w : IsDecidedWalk s level c.cut = record { structure = is; some = some; levels = levels; cutting = c.cutting; decided = c.decided } in
-    record {
-      structure = is;
-      some = some;
-      cutting = c.cutting;
-      decided = c.decided;
-      meets = λ d h. met_reached s level c.cut w d (all_met s level c.cut w (level d) d h refl);
-    }
+    let w : GoesByLevels s level c.cut = record { walk = record { structure = is; some = some; cutting = c.cutting; decided = c.decided }; levels = levels } in
+    record { walk = w.walk; meets = λ d h. met_reached s (is_up s level) c.cut w.walk d (all_met s level c.cut w (level d) d h refl) }
 
 -- each structure with a dart and levels is walked
 pub each_map_is_walked : (s : Structure) (level : ℕ → ℕ) → IsStructure s → 0 < s.darts → AreFaceLevels s level → IsWalked s level

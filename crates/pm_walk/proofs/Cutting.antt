@@ -1,6 +1,6 @@
 -- Edges that are cut, the walk along the others, and a choice of the edges that is settled where the walk meets each first.
-use Rattle.std.proofs.Common.{◌≡◌, ◌≢◌, ℕ, zero, suc, ◌<◌, inl, inr, Bool, true, false, ◌||◌, cond, eqb, refl, sym, ap, ◌∙◌, subst, eq-eqb, ne_eqb, arith}
-use Rattle.std.proofs.lemmas.Bool.{cases_Bool, cases_eq, cond-true, cond-false, or_left, or_right, or_from}
+use Rattle.std.proofs.Common.{◌≡◌, ◌≢◌, ℕ, zero, suc, ◌<◌, ◌⊎◌, inl, inr, Bool, true, false, ◌||◌, cond, eqb, refl, sym, ap, ◌∙◌, subst, eq-eqb, ne_eqb, arith}
+use Rattle.std.proofs.lemmas.Bool.{cases_Bool, cases_eq, cond-true, cond-false, or_left, or_right, or_from, false≢true}
 use Rattle.pm_perm.specs.Permutation.{IsPermutationBelow}
 use Rattle.pm_perm.specs.Cycles.{repeated}
 use Rattle.pm_perm.specs.Pairs.{IsInvolutionBelow}
@@ -109,11 +109,33 @@ dart_after-same s cut other (suc steps) same =
     let x : ℕ = dart_after s cut steps in
     ap (step_by s other) before ∙ ap (λ b. s.next (cond b x (s.twin x))) (same steps (omega arith))
 
--- a choice of the edges that is decided within so many steps
+-- the walk meets the edge of a dart within so many steps, and first at a dart that passes
+pub record IsCutAt (s : Structure) (out cut : ℕ → Bool) (count d : ℕ) : Type 0 where
+  pub at : ℕ
+  pub below : at < count
+  pub one_edge : (dart_after s cut at ≡ d) ⊎ (dart_after s cut at ≡ s.twin d)
+  pub fresh : (i : ℕ) → i < at → dart_after s cut i ≢ s.twin (dart_after s cut at)
+  pub passes : out (dart_after s cut at) ≡ true
+
+-- so it does within more steps, where the walk goes alike
+cut_at-more : (s : Structure) (out cut other : ℕ → Bool) (count d : ℕ) → ((i : ℕ) → i < suc count → dart_after s other i ≡ dart_after s cut i) → IsCutAt s out cut count d
+    → IsCutAt s out other (suc count) d
+cut_at-more s out cut other count d same c =
+    let there : dart_after s other c.at ≡ dart_after s cut c.at = same c.at (omega (arith, c.below)) in
+    record {
+      at = c.at;
+      below = omega (arith, c.below);
+      one_edge = elim c.one_edge [ inl own ↦ inl (there ∙ own) | inr twin ↦ inr (there ∙ twin) ];
+      fresh = λ i less e. c.fresh i less (sym (same i (omega (arith, less, c.below))) ∙ e ∙ ap s.twin there);
+      passes = ap out there ∙ c.passes;
+    }
+
+-- a choice of the edges that is decided within so many steps; no others are cut
 pub record HasCut (s : Structure) (out : ℕ → Bool) (count : ℕ) : Type 0 where
   pub cut : ℕ → Bool
   pub cutting : IsCutting s cut
   pub decided : IsDecided s out cut count
+  pub cut_at : (d : ℕ) → d < s.darts → cut d ≡ true → IsCutAt s out cut count d
 
 -- an edge that the walk meets first after these steps is decided there
 decided_anew : (s : Structure) (out : ℕ → Bool) (count : ℕ) (c : HasCut s out count) → IsStructure s → dart_after s c.cut count < s.darts
@@ -126,6 +148,14 @@ decided_anew s out count c is below new apart =
     recut-other s out c.cut dart (dart_after s c.cut i) (new i h) (apart i h) in
     let same : (i : ℕ) → i < suc count → dart_after s (recut s out c.cut dart) i ≡ dart_after s c.cut i = λ i h.
     dart_after-same s c.cut (recut s out c.cut dart) i (λ j less. alike j (omega arith)) in
+    let here : dart_after s (recut s out c.cut dart) count ≡ dart = same count (omega arith) in
+    let first : (d : ℕ) → (dart ≡ d) ⊎ (dart ≡ s.twin d) → out dart ≡ true → IsCutAt s out (recut s out c.cut dart) (suc count) d = λ d one passes. record {
+      at = count;
+      below = omega arith;
+      one_edge = elim one [ inl own ↦ inl (here ∙ own) | inr twin ↦ inr (here ∙ twin) ];
+      fresh = λ i less e. apart i less (sym (same i (omega (arith, less))) ∙ e ∙ ap s.twin here);
+      passes = ap out here ∙ passes;
+    } in
     record {
       cut = other;
       cutting = recut-cuts s out c.cut dart is below c.cutting;
@@ -142,13 +172,22 @@ decided_anew s out count c is below new apart =
                   alike j less ∙ c.decided.decided j less (λ i earlier e. fresh i earlier (same i (omega arith) ∙ e ∙ ap s.twin (sym there)))
             ]);
       };
+      cut_at = λ d h cuts. elim (cases_eq d dart) [
+        | inl own ↦ first d (inl (sym own)) (sym (recut-here s out c.cut dart d own) ∙ cuts)
+        | inr one ↦ elim (cases_eq d (s.twin dart)) [
+          | inl twin ↦ first d (inr (sym (is.twin_back dart below) ∙ ap s.twin (sym twin))) (sym (recut-twin s out c.cut dart d twin) ∙ cuts)
+          | inr two ↦
+              cut_at-more s out c.cut (recut s out c.cut dart) count d same (c.cut_at d h (sym (recut-other s out c.cut dart d one two) ∙ cuts))
+        ]
+      ];
     }
 
 pub has_cut : (s : Structure) (out : ℕ → Bool) → IsStructure s → 0 < s.darts → (count : ℕ) → HasCut s out count
 has_cut s out is some zero = record {
-  cut = λ d. true;
+  cut = λ d. false;
   cutting = record { both = λ d h. refl };
   decided = record { decided = λ j h. absurd (omega arith) };
+  cut_at = λ d h cuts. absurd (false≢true cuts);
 }
 has_cut s out is some (suc count) =
     let c : HasCut s out count = has_cut s out is some count in
@@ -162,12 +201,14 @@ has_cut s out is some (suc count) =
             (λ fresh.
             (let less : again.from < count = again.below in
             subst (λ x. c.cut x ≡ out x) again.value (c.decided.decided again.from less (λ i earlier e. fresh i (omega arith) (e ∙ ap s.twin again.value)))));
+        cut_at = λ d h cuts. cut_at-more s out c.cut c.cut count d (λ i less. refl) (c.cut_at d h cuts);
       }
       | inr new ↦ elim (reached_or_not (dart_after s c.cut) count (s.twin dart)) [
         | inl met ↦ record {
           cut = c.cut;
           cutting = c.cutting;
           decided = decided_more s out c.cut count c.decided (λ fresh. absurd (fresh met.from met.below met.value));
+          cut_at = λ d h cuts. cut_at-more s out c.cut c.cut count d (λ i less. refl) (c.cut_at d h cuts);
         }
         | inr apart ↦ decided_anew s out count c is below new apart
       ]

@@ -1,5 +1,6 @@
 pub mod Cutting
 pub mod Edges
+pub mod MetDarts
 pub mod NestedEdges
 pub mod Numbered
 pub mod OneWalk

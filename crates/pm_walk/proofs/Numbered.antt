@@ -10,15 +10,13 @@ use Rattle.pm_perm.proofs.Repeats.{repeated-inside, repeated-back}
 use Rattle.pm_map.specs.Structure.{Structure, IsStructure, CarriesTo}
 use Rattle.pm_map.proofs.CarriedStructure.{structure_carried}
 use Rattle.pm_walk.specs.Walk.{first_of, is_cut, across, IsWalkedInOrder}
-use Rattle.pm_walk.proofs.Cutting.{IsCutting, IsDecided, across_by, step_by, dart_after, step_by-permutes}
+use Rattle.pm_walk.proofs.Cutting.{across_by, step_by, dart_after, step_by-permutes}
+use Rattle.pm_walk.proofs.MetDarts.{IsDecidedWalk}
 use Rattle.pm_walk.proofs.Edges.{first_below}
 
 -- a choice of the edges that is decided, and whose walk meets every dart
 pub record IsWhole (s : Structure) (out cut : ℕ → Bool) : Type 0 where
-  pub structure : IsStructure s
-  pub some : 0 < s.darts
-  pub cutting : IsCutting s cut
-  pub decided : IsDecided s out cut s.darts
+  pub walk : IsDecidedWalk s out cut
   pub meets : (d : ℕ) → d < s.darts → IsReached (dart_after s cut) s.darts d
 
 -- the walk that meets every dart gives each a place
@@ -30,10 +28,10 @@ dart_after-permutes s out cut w =
 dart_after-round : (s : Structure) (out : ℕ → Bool) (cut : ℕ → Bool) → IsWhole s out cut → dart_after s cut s.darts ≡ s.root
 dart_after-round s out cut w =
     let n : ℕ = s.darts in
-    let some : 0 < n = w.some in
-    let steps : IsPermutationBelow n (step_by s cut) = step_by-permutes s cut w.structure w.cutting in
+    let some : 0 < n = w.walk.some in
+    let steps : IsPermutationBelow n (step_by s cut) = step_by-permutes s cut w.walk.structure w.walk.cutting in
     let walk : IsPermutationBelow n (dart_after s cut) = dart_after-permutes s out cut w in
-    let root : s.root < n = w.structure.root_stays w.some in
+    let root : s.root < n = w.walk.structure.root_stays w.walk.some in
     let inside : dart_after s cut n < n = repeated-inside (step_by s cut) n steps n s.root root in
     let at : IsReached (dart_after s cut) n (dart_after s cut n) = reached (dart_after s cut) n (dart_after s cut n) walk inside in
     let below : at.from < n = at.below in
@@ -72,7 +70,7 @@ numbered-twin : (s : Structure) (out : ℕ → Bool) (cut : ℕ → Bool) → Is
 unfolding numbered
 numbered-twin s out cut w k h =
     let walk : IsPermutationBelow s.darts (dart_after s cut) = dart_after-permutes s out cut w in
-    let inside : s.twin (dart_after s cut k) < s.darts = w.structure.twin_stays (dart_after s cut k) (walk.stays k h) in
+    let inside : s.twin (dart_after s cut k) < s.darts = w.walk.structure.twin_stays (dart_after s cut k) (walk.stays k h) in
     (value-place_of (dart_after s cut) s.darts (s.twin (dart_after s cut k)) walk inside, place_of-stays (dart_after s cut) s.darts (s.twin (dart_after s cut k)) walk inside)
 
 -- the test of a place
@@ -84,7 +82,7 @@ numbered-cut : (s : Structure) (out : ℕ → Bool) (cut : ℕ → Bool) → IsW
     → is_cut (numbered s cut) (out_after s cut out) k ≡ cut (dart_after s cut k)
 numbered-cut s out cut w k h =
     let walk : IsPermutationBelow s.darts (dart_after s cut) = dart_after-permutes s out cut w in
-    let is : IsStructure s = w.structure in
+    let is : IsStructure s = w.walk.structure in
     let other : ℕ = (numbered s cut).twin k in
     let twins = numbered-twin s out cut w k h in
     let beyond : dart_after s cut other ≡ s.twin (dart_after s cut k) = twins.0 in
@@ -94,16 +92,16 @@ numbered-cut s out cut w k h =
       | inl second ↦
           let chosen : first_of (numbered s cut) k ≡ other = cond-true (nat_lt other k) other k (lt-ltb other k second) in
           let decided : cut (dart_after s cut other) ≡ out (dart_after s cut other) =
-          w.decided.decided other inside
+          w.walk.decided.decided other inside
           (λ i less e.
           let same : i ≡ k = walk.injective i k (omega (arith, less, inside)) h (e ∙ ap s.twin beyond ∙ is.twin_back (dart_after s cut k) here) in
           omega (arith, same, less, second)) in
           ap (out_after s cut out) chosen ∙ sym decided
-          ∙ ap cut beyond ∙ w.cutting.both (dart_after s cut k) here
+          ∙ ap cut beyond ∙ w.walk.cutting.both (dart_after s cut k) here
       | inr first ↦
           let chosen : first_of (numbered s cut) k ≡ k = cond-false (nat_lt other k) other k (le-ltb other k first) in
           let decided : cut (dart_after s cut k) ≡ out (dart_after s cut k) =
-          w.decided.decided k h
+          w.walk.decided.decided k h
           (λ i less e.
           let same : i ≡ other = walk.injective i other (omega (arith, less, h)) inside (e ∙ sym beyond) in
           omega (arith, same, less, first)) in
@@ -129,7 +127,7 @@ unfolding numbered
 numbered-onward s out cut w k h =
     let n : ℕ = s.darts in
     let walk : IsPermutationBelow n (dart_after s cut) = dart_after-permutes s out cut w in
-    let some : 0 < n = w.some in
+    let some : 0 < n = w.walk.some in
     ap (λ x. place_of (dart_after s cut) s.darts (s.next x)) (numbered-across s out cut w k h)
     ∙ (elim (cases_lt (suc k) n) [
       | inl more ↦ place_of-of_value (dart_after s cut) n (suc k) walk more ∙ sym (mod-eq_of_lt more)
@@ -167,7 +165,7 @@ numbered_along s out cut w =
       rename = place_of (dart_after s cut) s.darts;
       dart = dart_after s cut;
       carries = carries;
-      structure = structure_carried (place_of (dart_after s cut) s.darts) s (numbered s cut) w.structure carries (λ none. first_root s cut);
+      structure = structure_carried (place_of (dart_after s cut) s.darts) s (numbered s cut) w.walk.structure carries (λ none. first_root s cut);
       in_order = in_order s out cut w;
       back = λ d h. value-place_of (dart_after s cut) s.darts d walk h;
       twin = λ k h. (numbered-twin s out cut w k h).0;
