@@ -5,7 +5,6 @@ mod Letters
 mod OneOpening
 mod Opened
 mod OpenedWalk
-mod PassedDarts
 mod PlaceKinds
 pub mod SomeOpening
 mod Spelled

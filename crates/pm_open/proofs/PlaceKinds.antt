@@ -15,16 +15,16 @@ root_cut s level low up = cut_is_out s (is_up s level) 0 (omega arith) ∙ eq-eq
 letter_of_root : (s : Structure) (level : ℕ → ℕ) (d : ℕ) → d ≡ 0 → letter_of s level d ≡ LEAF
 letter_of_root s level d e = rw (eq-eqb d 0 e) refl
 
-pub letter_of_bud : (s : Structure) (level : ℕ → ℕ) (d : ℕ) → d ≢ 0 → is_cut s level d ≡ true → d < s.twin d → letter_of s level d ≡ BUD
+letter_of_bud : (s : Structure) (level : ℕ → ℕ) (d : ℕ) → d ≢ 0 → is_cut s level d ≡ true → d < s.twin d → letter_of s level d ≡ BUD
 letter_of_bud s level d some e l = rw (ne_eqb d 0 some, e, lt-ltb d (s.twin d) l) refl
 
-pub letter_of_leaf : (s : Structure) (level : ℕ → ℕ) (d : ℕ) → d ≢ 0 → is_cut s level d ≡ true → s.twin d < d → letter_of s level d ≡ LEAF
+letter_of_leaf : (s : Structure) (level : ℕ → ℕ) (d : ℕ) → d ≢ 0 → is_cut s level d ≡ true → s.twin d < d → letter_of s level d ≡ LEAF
 letter_of_leaf s level d some e l = rw (ne_eqb d 0 some, e, le-ltb d (s.twin d) (omega arith)) refl
 
-pub letter_of_open : (s : Structure) (level : ℕ → ℕ) (d : ℕ) → d ≢ 0 → is_cut s level d ≡ false → d < s.twin d → letter_of s level d ≡ OPEN
+letter_of_open : (s : Structure) (level : ℕ → ℕ) (d : ℕ) → d ≢ 0 → is_cut s level d ≡ false → d < s.twin d → letter_of s level d ≡ OPEN
 letter_of_open s level d some e l = rw (ne_eqb d 0 some, e, lt-ltb d (s.twin d) l) refl
 
-pub letter_of_close : (s : Structure) (level : ℕ → ℕ) (d : ℕ) → d ≢ 0 → is_cut s level d ≡ false → s.twin d < d → letter_of s level d ≡ CLOSE
+letter_of_close : (s : Structure) (level : ℕ → ℕ) (d : ℕ) → d ≢ 0 → is_cut s level d ≡ false → s.twin d < d → letter_of s level d ≡ CLOSE
 letter_of_close s level d some e l = rw (ne_eqb d 0 some, e, le-ltb d (s.twin d) (omega arith)) refl
 
 -- which kind a dart is of, and its letter

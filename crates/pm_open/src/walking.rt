@@ -6,31 +6,13 @@ ghost use Rattle.pm_map.specs.Rotation.{structure_of};
 ghost use Rattle.pm_map.specs.declared.admitted.Degrees.TheVariants.{EvenUpTo};
 ghost use Rattle.pm_distances.specs.Distances.{AreFaceDistances};
 ghost use Rattle.pm_open.specs.Opening.{IsOpening};
-ghost use Rattle.pm_open.specs.steps.Passing.{IsPassed};
+ghost use Rattle.pm_walk.specs.Passing.{IsPassed};
+ghost use Rattle.pm_open.specs.steps.Spelling.{is_further, letter_for};
 
 use pm_map::RootedMap;
 use pm_trees::{BUD, CLOSE, LEAF, OPEN};
+use pm_walk::{DartKind, Fate, Step, pass};
 use std::alloc::{AllocError, Global};
-
-/// What the walk has done with an edge.
-#[derive(Clone, Copy)]
-enum Fate {
-    /// It hasn't met the edge yet.
-    Unmet,
-    /// It met the edge, cut it and went on around the vertex.
-    Cut,
-    /// It met the edge and went on behind the other dart.
-    Kept,
-}
-
-/// What the walk finds at a dart.
-#[derive(Clone, Copy)]
-struct Step {
-    /// The letter of the dart, where it isn't the root.
-    letter: u8,
-    /// The dart that the walk goes on to.
-    next: u32,
-}
 
 /// The word of the opening of a map, read along the walk from the root; the root itself is the plant, which isn't written.
 /// It takes time linear in the darts.
@@ -47,49 +29,34 @@ pub(crate) fn word_along(
     let darts = map.sigma().len();
     let mut fates = vec![in alloc; Fate::Unmet; darts / 2]?;
     let mut word = Vec::with_capacity(alloc, darts - 1)?;
-    let mut dart = pass(map, distances, map.root(), &mut fates).next;
+    let mut dart = step_at(map, distances, map.root(), &mut fates).next;
     'walk: for _place in 1..darts {
-        let step = pass(map, distances, dart, &mut fates);
-        word.push(step.letter)?;
+        let step = step_at(map, distances, dart, &mut fates);
+        word.push(letter(step.kind))?;
         dart = step.next;
     }
     Ok(word)
 }
 
-/// Passes a dart: where its edge is met for the first time, it is cut or kept.
-fn pass(map: &RootedMap, distances: &[u32], dart: u32, fates: &mut [Fate]) -> Step
+/// Passes a dart: where its edge is met for the first time, it is cut if the face beyond is further.
+fn step_at(map: &RootedMap, distances: &[u32], dart: u32, fates: &mut [Fate]) -> Step
     requires within { dart < length map.now.sigma }
     requires distances { length distances.now ≡ length map.now.sigma }
     requires edges { 2 * length fates.old ≡ length map.now.sigma }
-    ensures { IsPassed map.now distances.now dart fates.old fates.new result }
+    ensures { IsPassed map.now dart (is_further distances.now dart) fates.old fates.new result }
 {
-    // Read for its clauses: the darts are few and come in twos.
-    let _sigma = map.sigma();
-    let twin = map.twin(dart);
-    let edge = dart as usize / 2;
-    match fates[edge] {
-        Fate::Unmet => {
-            if distances[dart as usize] < distances[twin as usize] {
-                fates[edge] = Fate::Cut;
-                Step {
-                    letter: BUD,
-                    next: map.next(dart),
-                }
-            } else {
-                fates[edge] = Fate::Kept;
-                Step {
-                    letter: OPEN,
-                    next: map.next(twin),
-                }
-            }
-        }
-        Fate::Cut => Step {
-            letter: LEAF,
-            next: map.next(dart),
-        },
-        Fate::Kept => Step {
-            letter: CLOSE,
-            next: map.next(twin),
-        },
+    let further = distances[dart as usize] < distances[map.twin(dart) as usize];
+    pass(map, dart, further, fates)
+}
+
+/// The letter of a dart of this kind, where it isn't the root.
+fn letter(kind: DartKind) -> u8
+    ensures { result ≡ letter_for kind }
+{
+    match kind {
+        DartKind::CutFirst => BUD,
+        DartKind::CutAgain => LEAF,
+        DartKind::KeptFirst => OPEN,
+        DartKind::KeptAgain => CLOSE,
     }
 }

@@ -4,3 +4,5 @@ pub mod MetDarts
 pub mod NestedEdges
 pub mod Numbered
 pub mod OneWalk
+pub mod PassedDarts
+pub mod WalkLoop

@@ -2,5 +2,10 @@
 #![tactic(auto)]
 
 mod laws;
+mod passing;
 
 pub use laws::walked_edges_are_nested;
+pub use passing::{DartKind, Fate, Step, pass};
+
+#[cfg(test)]
+mod tests;
