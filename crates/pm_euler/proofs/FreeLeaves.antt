@@ -1,5 +1,5 @@
 -- Planting a tree anew at a free leaf.
-use Rattle.std.proofs.Common.{◌≡◌, ℕ, suc, ◌+◌, ◌-◌, ◌%◌, ◌<◌, ◌≤◌, List, ◌∷◌, length, refl, sym, ◌∙◌, ap, subst, inl, inr, arith}
+use Rattle.std.proofs.Common.{◌≡◌, ℕ, ◌+◌, ◌-◌, ◌%◌, ◌<◌, ◌≤◌, List, length, refl, sym, ap, subst, inl, inr, arith}
 use Rattle.std.specs.Prelude.{take, slice_index}
 use Rattle.std.proofs.lemmas.Bool.{cases_eq}
 use Rattle.pm_trees.specs.declared.letters.TheConstants.{LEAF}
@@ -9,7 +9,6 @@ use Rattle.pm_trees.specs.Leaves.{IsLeafAt}
 use Rattle.pm_trees.specs.Replanted.{IsReplanted, place_from}
 use Rattle.pm_trees.specs.Replanting.{leaf_after}
 use Rattle.pm_trees.proofs.Balance.{two_more_leaves}
-use Rattle.pm_trees.proofs.Tally.{tally_is, tally_yes}
 use Rattle.pm_trees.proofs.RingPlaces.{steps_to, steps_lead, steps_under}
 use Rattle.pm_trees.proofs.LeafTurns.{one_leaf, leaf_within}
 use Rattle.pm_trees.proofs.LeafCounts.{plant_is_first}
@@ -90,24 +89,9 @@ free_leaf_within places free place is = leaf_inside places place (free_leaf_lett
 pub free_leaf_numbered : (places : List ℕ) (free place leaf : ℕ) → IsFreeLeaf places free place → leaf ≡ count LEAF (take place places) → IsLeafAt places leaf place
 free_leaf_numbered places free place leaf is e = record { here = free_leaf_letter places free place is; before = sym e }
 
--- the leaves before a place behind the plant
-pub count_before : (letters : List ℕ) (place n : ℕ) → (place ≡ 0 → ⊥) → n ≡ count LEAF (take (place - 1) letters) → n + 1 ≡ count LEAF (take place (contour letters))
-count_before letters place n some e =
-    let next : suc (place - 1) ≡ place = omega arith in
-    let one : n + 1 ≡ suc n = omega arith in
-    one ∙ ap suc (e ∙ sym (tally_is LEAF (take (place - 1) letters))) ∙ sym (tally_yes LEAF LEAF (take (place - 1) letters) refl)
-    ∙ tally_is LEAF (LEAF ∷ take (place - 1) letters) ∙ ap (λ (k : ℕ). count LEAF (take k (contour letters))) next
-
 -- what planting anew owes, of the place of a free leaf
-pub free_leaf_inside : (word letters : List ℕ) (free place : ℕ) → letters ≡ word → IsFreeLeaf (contour word) free place → place ≤ length letters
-free_leaf_inside word letters free place same is =
-    let within = free_leaf_within (contour word) free place is in
-    let long = ap length same in
-    omega arith
-
-pub free_leaf_counted : (word letters : List ℕ) (free place leaf : ℕ) → letters ≡ word → IsFreeLeaf (contour word) free place → leaf ≡ count LEAF (take place (contour letters)) → IsLeafAt (contour word) leaf place
-free_leaf_counted word letters free place leaf same is counted =
-    free_leaf_numbered (contour word) free place leaf is (counted ∙ ap (λ (xs : List ℕ). count LEAF (take place (contour xs))) same)
+pub free_leaf_inside : (word : List ℕ) (free place : ℕ) → IsFreeLeaf (contour word) free place → place ≤ length word
+free_leaf_inside word free place is = let within = free_leaf_within (contour word) free place is in omega arith
 
 pub old_number : (word : List ℕ) (leaf a b : ℕ) → a ≡ leaves word → b ≡ leaves word → leaf_after word leaf 0 ≡ (a - leaf) % b
 old_number word leaf a b e f = plain (leaves word) a b leaf e f where

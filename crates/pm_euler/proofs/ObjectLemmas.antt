@@ -151,13 +151,7 @@ profile_has pairs objects is has = record {
   of_leaves = has.of_leaves;
 }
 
--- what the walks along the pairs keep and end with
-pub edges_within : (pairs : List (ℕ × ℕ)) (i : ℕ) → IsProfile pairs → i < length pairs → sum_by (λ (p : ℕ × ℕ). p.1 * (p.0 / 2)) (take i pairs) + (pair_at pairs i).1 * ((pair_at pairs i).0 / 2) ≤ MAX_EDGES
-edges_within pairs i is less = omega (arith, sum_by_more_le (λ (p : ℕ × ℕ). p.1 * (p.0 / 2)) pairs i (0, 0) less, edges_by_halves pairs is, is.few)
-
-pub edges_counted : (pairs : List (ℕ × ℕ)) (i edges : ℕ) → IsProfile pairs → length pairs ≤ i → edges ≡ sum_by (λ (p : ℕ × ℕ). p.1 * (p.0 / 2)) (take i pairs) → edges ≡ edges_of pairs
-edges_counted pairs i edges is past e = e ∙ ap (sum_by (λ (p : ℕ × ℕ). p.1 * (p.0 / 2))) (take_all i pairs past) ∙ edges_by_halves pairs is
-
+-- what the walk along the pairs keeps and ends with
 pub nodes_within : (pairs : List (ℕ × ℕ)) (i : ℕ) → IsProfile pairs → i < length pairs → sum_by (λ (p : ℕ × ℕ). p.1) (take i pairs) + (pair_at pairs i).1 ≤ MAX_EDGES
 nodes_within pairs i is less = omega (arith, sum_by_more_le (λ (p : ℕ × ℕ). p.1) pairs i (0, 0) less, nodes_by_pairs pairs, halves_few pairs is, is.few)
 

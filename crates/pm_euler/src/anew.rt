@@ -1,13 +1,12 @@
 //! A tree planted anew at one of its two free leaves.
-ghost use Rattle.std.specs.Prelude.{◌≡◌, ◌<◌, ◌≤◌, ◌^◌, length, take, IfOk};
-ghost use Rattle.pm_trees.specs.declared.letters.TheConstants.{LEAF as leaf};
+ghost use Rattle.std.specs.Prelude.{◌<◌, IfOk};
 ghost use Rattle.pm_trees.specs.Replanting.{IsAlike};
-ghost use Rattle.pm_trees.specs.Word.{contour, count};
+ghost use Rattle.pm_trees.specs.Word.{contour};
 ghost use Rattle.pm_match.specs.Pair.{IsBalanced};
 ghost use Rattle.pm_euler.specs.PlantedAnew.{IsFreeLeaf, IsPlantedAnew};
 
 use pm_match::matching;
-use pm_trees::{LEAF, Tree, replant};
+use pm_trees::{Tree, replant};
 use std::alloc::{AllocError, Global};
 
 /// A tree planted at a free leaf, and the number in it of the leaf that was the plant before.
@@ -25,8 +24,10 @@ pub(crate) fn plant_anew(alloc: Global, tree: &Tree, free: u64) -> Result<Plante
     ensures balanced { IfOk result (λ anew. IsBalanced (contour anew.tree)) }
     ensures alike { IfOk result (λ anew. IsAlike tree.now anew.tree) }
 {
+    // Its contract says that they are those of a blossoming tree.
+    let _letters = tree.letters();
     let place = free_leaf(alloc, tree, free)?;
-    let leaf = leaves_before(tree.letters(), place);
+    let leaf = tree.leaves_before(place);
     let replanted = replant(alloc, tree, leaf)?;
     Ok(PlantedAnew {
         tree: replanted,
@@ -42,24 +43,4 @@ fn free_leaf(alloc: Global, tree: &Tree, free: u64) -> Result<u32, AllocError>
     let pairing = matching(alloc, tree)?;
     let (first, second) = pairing.free();
     Ok(if free == 0 { first } else { second })
-}
-
-/// How many leaves stand before the place along the contour.
-pub(crate) fn leaves_before(letters: &[u8], place: u32) -> u32
-    requires short { length letters.now < 2 ^ 31 }
-    requires within { place ≤ length letters.now }
-    ensures { result ≡ count leaf (take place (contour letters.now)) }
-{
-    if place == 0 {
-        return 0;
-    }
-    leaves_in(&letters[..place as usize - 1]) + 1
-}
-
-/// How many of the letters are leaves.
-fn leaves_in(letters: &[u8]) -> u32
-    requires { length letters.now < 2 ^ 31 }
-    ensures { result ≡ count leaf letters.now }
-{
-    letters.iter().filter(|letter| **letter == LEAF).count() as u32
 }

@@ -3,7 +3,7 @@ ghost use Rattle.std.specs.Prelude.{◌≡◌, ◌∷◌, ◌++◌, IfOk, OnOk};
 ghost use Rattle.pm_objects.specs.Codes.{code_bounds};
 ghost use Rattle.pm_euler.specs.Bounds.{growth_bounds, eulerian_choices, eulerian_residues};
 
-use crate::objects::{edges_of, nodes_of};
+use crate::objects::nodes_of;
 use pm_trees::{Profile, pattern_count};
 use std::alloc::{AllocError, Global};
 
@@ -51,7 +51,7 @@ pub(crate) fn eulerian_choice_limits(
     ensures { IfOk result (λ limits. limits.items ≡ eulerian_choices profile.now) }
 {
     let mut limits = Vec::new(alloc);
-    push_code_limits(&mut limits, edges_of(profile) + 1)?;
+    push_code_limits(&mut limits, profile.edges() + 1)?;
     for pair in profile.pairs() {
         let patterns = vec![in alloc; pattern_count(pair.0 / 2); pair.1 as usize]?;
         limits.extend_from_slice(&patterns)?;
@@ -68,7 +68,7 @@ pub(crate) fn eulerian_residue_limits(
 ) -> Result<Vec<u64>, AllocError>
     ensures { IfOk result (λ limits. limits.items ≡ eulerian_residues profile.now) }
 {
-    let objects = edges_of(profile) + 1;
+    let objects = profile.edges() + 1;
     let leaves = objects - nodes_of(profile);
     let mut limits = Vec::new(alloc);
     limits.push(u64::from(objects))?;

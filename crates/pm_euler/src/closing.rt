@@ -5,7 +5,7 @@ ghost use Rattle.pm_match.specs.Pair.{IsBalanced};
 ghost use Rattle.pm_euler.specs.Closed.{IsCanonicalClosure};
 
 use pm_canon::canon;
-use pm_close::{CloseRefusal, close_tree};
+use pm_close::close_balanced;
 use pm_map::RootedMap;
 use pm_trees::Tree;
 use std::alloc::{AllocError, Global};
@@ -15,9 +15,6 @@ pub(crate) fn canonical_closure(alloc: Global, tree: &Tree) -> Result<RootedMap,
     requires { IsBalanced (contour tree.now) }
     ensures { IfOk result (IsCanonicalClosure tree.now) }
 {
-    match close_tree(alloc, tree) {
-        Ok(closed) => canon(alloc, &closed.map),
-        Err(CloseRefusal::Memory) => Err(AllocError),
-        Err(CloseRefusal::NotBalanced { .. }) => unreachable!(),
-    }
+    let closed = close_balanced(alloc, tree)?;
+    canon(alloc, &closed.map)
 }

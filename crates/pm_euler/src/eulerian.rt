@@ -15,7 +15,7 @@ use crate::bounds::{eulerian_choice_limits, eulerian_residue_limits};
 use crate::closing::canonical_closure;
 use crate::map_profile::profile_of_map;
 use crate::object_order::{halves_in, ranks_by_object};
-use crate::objects::{edges_of, halves_of, nodes_of, ranges_of};
+use crate::objects::{halves_of, nodes_of, ranges_of};
 use crate::unplanting::unplant;
 use pm_class::{MapClass, Sample};
 use pm_lehmer::{arrange, code};
@@ -75,7 +75,7 @@ impl MapClass for Eulerian {
 
     fn sample_valid(alloc: Global, size: &Profile, choices: &[u64]) -> Result<Sample, AllocError> {
         let halves = halves_of(alloc, size)?;
-        let objects = edges_of(size) as usize + 1;
+        let objects = size.edges() as usize + 1;
         let preorder = preorder_of(alloc, &halves, &choices[..objects])?;
         let last = objects + halves.len();
         let tree = plant_plane(alloc, &halves, &choices[objects..last], &preorder.objects)?;

@@ -1,6 +1,5 @@
 //! The objects that a map with a given profile is made of.
 ghost use Rattle.std.specs.Prelude.{◌≡◌, ◌≤◌, length, All, IfOk};
-ghost use Rattle.pm_limits.specs.declared.TheConstants.{MAX_EDGES};
 ghost use Rattle.pm_trees.specs.BudPattern.{IsHalfDegree};
 ghost use Rattle.pm_trees.specs.Pairs.{edges_of};
 ghost use Rattle.pm_euler.specs.Objects.{halves_of, nodes_of_profile, ranges_of};
@@ -8,18 +7,6 @@ ghost use Rattle.pm_euler.specs.Objects.{halves_of, nodes_of_profile, ranges_of}
 use pm_objects::arities_of;
 use pm_trees::Profile;
 use std::alloc::{AllocError, Global};
-
-/// The edges of a map whose vertices have the degrees of the profile.
-pub(crate) fn edges_of(profile: &Profile) -> u32
-    ensures edges { result ≡ edges_of profile.now }
-    ensures few { result ≤ MAX_EDGES }
-{
-    let mut edges = 0;
-    for pair in profile.pairs() {
-        edges += pair.1 * (pair.0 / 2);
-    }
-    edges
-}
 
 /// The nodes of the profile.
 pub(crate) fn nodes_of(profile: &Profile) -> u32

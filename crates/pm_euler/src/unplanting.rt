@@ -12,7 +12,6 @@ ghost use Rattle.pm_trees.specs.Word.{contour};
 ghost use Rattle.pm_euler.specs.PlantedAnew.{IsFreeLeaf};
 ghost use Rattle.pm_euler.specs.Unplanted.{IsUnplanted};
 
-use crate::anew::leaves_before;
 use pm_map::RootedMap;
 use pm_match::matching;
 use pm_open::{OpenRefusal, open_map};
@@ -65,7 +64,7 @@ fn number_of_free(alloc: Global, tree: &Tree, leaf: u32) -> Result<u64, AllocErr
 {
     let pairing = matching(alloc, tree)?;
     let (first, _) = pairing.free();
-    Ok(if leaves_before(tree.letters(), first) == leaf {
+    Ok(if tree.leaves_before(first) == leaf {
         0
     } else {
         1

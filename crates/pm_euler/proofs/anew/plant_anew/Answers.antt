@@ -2,25 +2,25 @@ use Rattle.std.proofs.Common.{subst}
 use Rattle.pm_trees.specs.Word.{contour}
 use Rattle.pm_trees.proofs.LeafTurns.{leaf_few}
 use Rattle.pm_euler.specs.PlantedAnew.{IsPlantedAnew}
-use Rattle.pm_euler.proofs.FreeLeaves.{free_leaf_inside, free_leaf_counted, anew_from, anew_balanced, old_number}
+use Rattle.pm_euler.proofs.FreeLeaves.{free_leaf_inside, free_leaf_numbered, anew_from, anew_balanced, old_number}
 use Rattle.pm_euler.proofs.anew.plant_anew.Goals as goal
 
-pub leaves_before-leaf-requires-clause-within : goal.leaves_before-leaf-requires-clause-within
-leaves_before-leaf-requires-clause-within c = free_leaf_inside c.args.tree.now c.letters.result.now c.args.free c.in_ok-place.place c.letters.ensures.letters c.in_ok-place.ensures
+pub leaves_before-leaf-requires : goal.leaves_before-leaf-requires
+leaves_before-leaf-requires c = free_leaf_inside c.args.tree.now c.args.free c.in_ok-place.place c.in_ok-place.ensures
 
 pub replant-requires : goal.replant-requires
 replant-requires c =
-    let numbered = free_leaf_counted c.args.tree.now c.letters.result.now c.args.free c.in_ok-place.place c.leaves_before-leaf.result c.letters.ensures.letters c.in_ok-place.ensures c.leaves_before-leaf.ensures in
+    let numbered = free_leaf_numbered (contour c.args.tree.now) c.args.free c.in_ok-place.place c.leaves_before-leaf.result c.in_ok-place.ensures c.leaves_before-leaf.ensures in
     leaf_few (contour c.args.tree.now) c.leaves_before-leaf.result c.in_ok-place.place numbered
 
 pub returns-clause-anew : goal.returns-clause-anew
 returns-clause-anew c =
-    let numbered = free_leaf_counted c.args.tree.now c.letters.result.now c.args.free c.in_ok-place.place c.leaves_before-leaf.result c.letters.ensures.letters c.in_ok-place.ensures c.leaves_before-leaf.ensures in
+    let numbered = free_leaf_numbered (contour c.args.tree.now) c.args.free c.in_ok-place.place c.leaves_before-leaf.result c.in_ok-place.ensures c.leaves_before-leaf.ensures in
     let number = old_number c.args.tree.now c.leaves_before-leaf.result c.leaves.result c.leaves-2.result c.leaves.ensures c.leaves-2.ensures in
     subst (IsPlantedAnew c.args.tree.now c.args.free c.in_ok-replanted.replanted) number
-    (anew_from c.args.tree.now c.args.free c.leaves_before-leaf.result c.in_ok-place.place c.in_ok-replanted.replanted c.letters.ensures.valid c.in_ok-place.ensures numbered c.in_ok-replanted.ensures.replanted)
+    (anew_from c.args.tree.now c.args.free c.leaves_before-leaf.result c.in_ok-place.place c.in_ok-replanted.replanted c.letters-letters.ensures.valid c.in_ok-place.ensures numbered c.in_ok-replanted.ensures.replanted)
 
 pub returns-clause-balanced : goal.returns-clause-balanced
 returns-clause-balanced c =
-    let numbered = free_leaf_counted c.args.tree.now c.letters.result.now c.args.free c.in_ok-place.place c.leaves_before-leaf.result c.letters.ensures.letters c.in_ok-place.ensures c.leaves_before-leaf.ensures in
-    anew_balanced c.args.tree.now c.args.free c.leaves_before-leaf.result c.in_ok-place.place c.in_ok-replanted.replanted c.letters.ensures.valid c.in_ok-place.ensures numbered c.in_ok-replanted.ensures.replanted
+    let numbered = free_leaf_numbered (contour c.args.tree.now) c.args.free c.in_ok-place.place c.leaves_before-leaf.result c.in_ok-place.ensures c.leaves_before-leaf.ensures in
+    anew_balanced c.args.tree.now c.args.free c.leaves_before-leaf.result c.in_ok-place.place c.in_ok-replanted.replanted c.letters-letters.ensures.valid c.in_ok-place.ensures numbered c.in_ok-replanted.ensures.replanted
