@@ -1,5 +1,6 @@
 pub mod Cutting
 pub mod Edges
+pub mod LedWalk
 pub mod MetDarts
 pub mod NestedEdges
 pub mod Numbered

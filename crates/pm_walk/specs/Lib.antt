@@ -1,3 +1,4 @@
 pub mod Laws
+pub mod Led
 pub mod Passing
 pub mod Walk
