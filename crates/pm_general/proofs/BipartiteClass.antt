@@ -20,14 +20,11 @@ use Rattle.pm_class.specs.ClassLaws.{IsKeptByRenumbering, HasMostEdges}
 use Rattle.pm_class.specs.Sampling.{IsSizeWhereAnswered, HasOneAnswer}
 use Rattle.pm_euler.specs.Eulerian.{IsEulerianAnswer}
 use Rattle.pm_general.specs.Bipartite.{IsDualStructure, IsBipartiteAnswer}
-use Rattle.pm_general.proofs.DualsOfMaps.{dual_map, dual_map_is, map_to_dual, dual_to_map, map_to_second_dual}
+use Rattle.pm_general.proofs.DualsOfMaps.{dual_map, dual_map_is, map_to_dual, dual_to_map, dual_back}
 
--- a map is the same as its dual's dual, and its dual as its image
+-- the dual map of a map is the same as its image
 pub dual_is_imaged : (m other : RotationSystem) → IsDualOf m other → IsSameAsImage IsDualStructure m other
 dual_is_imaged m other of = record { there = dual (structure_of m); is_image = refl; is_same = (λ d. d, map_to_dual m other of) }
-
-pub dual_images : (m other : RotationSystem) → IsRootedMap m → IsDualOf m other → IsSameAsImage IsDualStructure other m
-dual_images m other rooted of = record { there = dual (structure_of other); is_image = refl; is_same = (λ d. d, map_to_second_dual m other rooted.structure of) }
 
 -- the dual of a map has as many vertices of each degree as the map has faces
 pub dual_is_eulerian : (pairs : List (ℕ × ℕ)) (m other : RotationSystem) → IsRootedMap m → IsDualOf m other → IsBipartite (structure_of m) pairs → IsEulerian (structure_of other) pairs
@@ -36,15 +33,6 @@ dual_is_eulerian pairs m other rooted of is =
     let after : IsStructure (structure_of other) = (dual_is_rooted m other rooted of).structure in
     eulerian_kept pairs (dual (structure_of m)) (structure_of other) there after (λ d. d, dual_to_map m other of)
     (record { plane = dual_is_plane (structure_of m) is.plane; degrees = is.degrees })
-
--- the map before an eulerian one is its dual
-before_is_bipartite : (pairs : List (ℕ × ℕ)) (m other : RotationSystem) → IsRootedMap m → IsDualOf m other → IsEulerian (structure_of m) pairs → IsBipartite (structure_of other) pairs
-before_is_bipartite pairs m other rooted of is =
-    let after : IsRootedMap other = dual_is_rooted m other rooted of in
-    record {
-      plane = rooted_is_plane other after;
-      degrees = (eulerian_kept pairs (structure_of m) (dual (structure_of other)) rooted.structure (dual_is_structure (structure_of other) after.structure) (λ d. d, map_to_second_dual m other rooted.structure of) is).degrees;
-    }
 
 -- a map whose dual is eulerian is bipartite
 pub dual_is_bipartite : (pairs : List (ℕ × ℕ)) (m other : RotationSystem) → IsRootedMap m → IsDualOf m other → IsEulerian (structure_of other) pairs → IsBipartite (structure_of m) pairs
@@ -74,8 +62,8 @@ bipartite_is_exchanged pairs = record {
   from_behind = λ m rooted is. record {
     map = dual_map m;
     rooted = dual_is_rooted m (dual_map m) rooted (dual_map_is m);
-    in_class = before_is_bipartite pairs m (dual_map m) rooted (dual_map_is m) is;
-    is = dual_images m (dual_map m) rooted (dual_map_is m);
+    in_class = dual_is_bipartite pairs (dual_map m) m (dual_is_rooted m (dual_map m) rooted (dual_map_is m)) (dual_back m (dual_map m) rooted.structure (dual_map_is m)) is;
+    is = dual_is_imaged (dual_map m) m (dual_back m (dual_map m) rooted.structure (dual_map_is m));
   };
   tells = duals_tell_images;
   kept = bipartite_kept_by_renumbering pairs;

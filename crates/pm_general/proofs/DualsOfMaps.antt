@@ -31,6 +31,11 @@ pub dual_to_map : (m other : RotationSystem) → IsDualOf m other → CarriesTo 
 dual_to_map m other of = same_darts (dual (structure_of m)) (structure_of other) (sym of.as_long) (λ d h. sym (of.entry d h)) (λ d h. refl) (λ some. sym of.root)
 
 -- the map is the dual of its dual
-pub map_to_second_dual : (m other : RotationSystem) → IsStructure (structure_of m) → IsDualOf m other → CarriesTo (λ d. d) (structure_of m) (dual (structure_of other))
-map_to_second_dual m other is of =
-    same_darts (structure_of m) (dual (structure_of other)) (sym of.as_long) (λ d h. ap (slice_index m.sigma) (sym (is.twin_back d h)) ∙ sym (of.entry (twin d) (is.twin_stays d h))) (λ d h. refl) (λ some. sym of.root)
+pub dual_back : (m other : RotationSystem) → IsStructure (structure_of m) → IsDualOf m other → IsDualOf other m
+dual_back m other is of = record {
+  as_long = sym of.as_long;
+  entry = λ d h.
+      let less : d < length m.sigma = subst (λ n. d < n) of.as_long h in
+      ap (slice_index m.sigma) (sym (is.twin_back d less)) ∙ sym (of.entry (twin d) (is.twin_stays d less));
+  root = sym of.root;
+}
