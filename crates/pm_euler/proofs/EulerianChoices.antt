@@ -7,7 +7,7 @@ use Rattle.pm_trees.specs.Pairs.{IsProfile, edges_of}
 use Rattle.pm_euler.specs.Bounds.{eulerian_choices}
 use Rattle.pm_objects.specs.Preorder.{ArePreordered}
 use Rattle.pm_euler.specs.Objects.{halves_of, nodes_of_profile}
-use Rattle.pm_planting.specs.PlanePlanted.{IsPlantedPlane}
+use Rattle.pm_planting.specs.Kinds.{IsPlantedPlane}
 use Rattle.pm_euler.proofs.EulerianBounds.{arrangement_long, rank_is_valid, free_is_valid}
 use Rattle.pm_euler.proofs.Preorders.{IsPreorder, preorder_is}
 

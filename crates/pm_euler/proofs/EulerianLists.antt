@@ -7,7 +7,6 @@ use Rattle.pm_lehmer.proofs.Arranged.{length-arrangement}
 use Rattle.pm_perm.specs.Lists.{Stands}
 use Rattle.pm_perm.specs.Permutation.{IsPermutationList}
 use Rattle.pm_perm.proofs.Permutations.{reached}
-use Rattle.pm_trees.specs.declared.letters.TheConstants.{OPEN, CLOSE}
 use Rattle.pm_trees.specs.BudPattern.{IsHalfDegree}
 use Rattle.pm_trees.specs.Pairs.{IsProfile, edges_of}
 use Rattle.pm_words.specs.Word.{turned}
@@ -21,10 +20,10 @@ use Rattle.pm_planting.specs.Kinds.{IsWordOfKinds, kind_of, kinds_of}
 use Rattle.pm_euler.specs.Objects.{halves_of, nodes_of_profile, leaves_of_profile, ranges_of}
 use Rattle.pm_euler.proofs.EulerianBounds.{arrangement_long, ranks_long, length-eulerian_choices}
 use Rattle.pm_euler.proofs.EulerianSamples.{planted_tree}
-use Rattle.pm_planting.proofs.KindSides.{kind_node, sides_kinds, halves_in_kinds}
+use Rattle.pm_planting.proofs.KindSides.{kind_node, halves_in_kinds}
 use Rattle.pm_euler.proofs.EulerianParts.{whole_of_parts}
 use Rattle.pm_euler.proofs.ObjectLemmas.{halves_are, halves_few}
-use Rattle.pm_planting.proofs.PlaneTexts.{half_degrees}
+use Rattle.pm_planting.proofs.KindSides.{half_degrees}
 use Rattle.pm_euler.proofs.OneUnplanting.{anew_is_once}
 use Rattle.pm_euler.proofs.Preorders.{preorder_is}
 use Rattle.pm_planting.proofs.SideReading.{one_reading, halves_in}
@@ -89,8 +88,7 @@ one_eulerian_list pairs is one other map residue x y =
     let once = anew_is_once x.word y.word x.planted_anew y.planted_anew free other_free x.old_plant map tree other_tree x.is_anew anew x.is_closed y.is_closed in
     let kinds : kinds_of halves ranks x.objects ≡ kinds_of halves other_ranks y.objects =
     one_reading (kinds_of halves ranks x.objects) (kinds_of halves other_ranks y.objects) y.word
-    (subst (λ (w : List ℕ). IsWordOfKinds (kinds_of halves ranks x.objects) w) once.0 (sides_kinds halves ranks x.objects ((OPEN ∷ x.word ++ CLOSE ∷ []) ∷ []) x.is_planted))
-    (sides_kinds halves other_ranks y.objects ((OPEN ∷ y.word ++ CLOSE ∷ []) ∷ []) y.is_planted) in
+    (subst (λ (w : List ℕ). IsWordOfKinds (kinds_of halves ranks x.objects) w) once.0 x.is_planted) y.is_planted in
     let keys : half_degrees halves x.objects ≡ half_degrees halves y.objects = sym (halves_in_kinds halves ranks x.objects) ∙ ap halves_in kinds ∙ halves_in_kinds halves other_ranks y.objects in
     let objects : x.objects ≡ y.objects =
     one_order (ranges_of pairs) (leaves_of_profile pairs) x.start y.start x.are_preordered.arrangement y.are_preordered.arrangement x.objects y.objects p.ranged q.ranged x.are_preordered.is_arranged.is_permutation

@@ -35,7 +35,7 @@ use Rattle.pm_euler.specs.Eulerian.{SamplesEulerian}
 use Rattle.pm_planting.specs.Kinds.{IsWordOfKinds, kind_of, kinds_of}
 use Rattle.pm_objects.specs.Objects.{arity_of, letters_of}
 use Rattle.pm_euler.specs.Objects.{halves_of, nodes_of_profile, leaves_of_profile, ranges_of}
-use Rattle.pm_planting.specs.PlanePlanted.{IsPlantedPlane}
+use Rattle.pm_planting.specs.Kinds.{IsPlantedPlane}
 use Rattle.pm_euler.specs.PlantedAnew.{IsPlantedAnew}
 use Rattle.pm_euler.specs.Unplanted.{IsUnplanted}
 use Rattle.pm_objects.proofs.CodeBounds.{valid_cons, valid_append, valid_code}
@@ -47,10 +47,10 @@ use Rattle.pm_euler.proofs.EulerianTrees.{all_objects, profile_kinds}
 use Rattle.pm_objects.proofs.RangeCodes.{valid_split, codes_exist}
 use Rattle.pm_objects.proofs.ObjectCounts.{numbers}
 use Rattle.pm_objects.proofs.Preorders.{letters_turned}
-use Rattle.pm_planting.proofs.KindSides.{IsKind, of_leaf, of_node, kind_leaf, kind_node, kinds_each, kinds_sides, kinds_good, letters_in, letters_of_kinds}
+use Rattle.pm_planting.proofs.KindSides.{IsKind, of_leaf, of_node, kind_leaf, kind_node, kinds_each, kinds_good, letters_in, letters_of_kinds}
 use Rattle.pm_euler.proofs.ObjectLemmas.{halves_are, halves_few, all_of_profile, profile_apart}
 use Rattle.pm_objects.proofs.ObjectsFound.{AreFound, objects_found}
-use Rattle.pm_planting.proofs.PlaneTexts.{half_degrees}
+use Rattle.pm_planting.proofs.KindSides.{half_degrees}
 use Rattle.pm_planting.proofs.PlaneTrees.{node_object}
 use Rattle.pm_objects.proofs.SameCounts.{IsAsMany, counted_keys}
 use Rattle.pm_planting.proofs.SideReading.{halves_in}
@@ -182,7 +182,7 @@ list_of_objects pairs kinds map start codes old_plant word free turned ranks is 
         are_preordered = found_preorder pairs (halves_in kinds) start codes (take m choices) is f less (sym parts.code_is) good;
         word = word;
         is_planted = subst (λ (rs : List ℕ). IsPlantedPlane (halves_of pairs) rs f.objects word) (sym parts.ranks_are)
-            (kinds_sides (halves_of pairs) ranks kinds ((OPEN ∷ word ++ CLOSE ∷ []) ∷ []) f.objects planted r.kinds_are);
+            (subst (λ (ks : List (ℕ × ℕ)). IsWordOfKinds ks word) (sym r.kinds_are) planted);
         planted_anew = turned;
         old_plant = old_plant;
         is_anew = subst (λ (k : ℕ). IsPlantedAnew word k turned old_plant) (sym parts.free_is) anew;

@@ -18,7 +18,7 @@ use Rattle.pm_euler.specs.Closed.{IsCanonicalClosure}
 use Rattle.pm_objects.specs.Preorder.{ArePreordered}
 use Rattle.pm_euler.specs.Eulerian.{SamplesEulerian, codes_by_degree}
 use Rattle.pm_euler.specs.Objects.{halves_of, nodes_of_profile, leaves_of_profile}
-use Rattle.pm_planting.specs.PlanePlanted.{IsPlantedPlane}
+use Rattle.pm_planting.specs.Kinds.{IsPlantedPlane}
 use Rattle.pm_euler.specs.PlantedAnew.{IsPlantedAnew}
 use Rattle.pm_class.specs.declared.sample.Sample.{Sample}
 use Rattle.pm_class.specs.Sampling.{IsSampled, HasOneSample, EachListIsSampled}

@@ -18,7 +18,7 @@ use Rattle.pm_planting.proofs.KindSides.{kinds_long}
 use Rattle.pm_euler.proofs.ObjectLemmas.{HasObjects, all_of_profile, halves_sum, profile_apart, profile_has}
 use Rattle.pm_objects.proofs.ObjectCounts.{numbers, arities_long}
 use Rattle.pm_objects.proofs.ObjectCounts.{all_objects as objects_of_ranges}
-use Rattle.pm_planting.proofs.PlaneTexts.{half_degrees}
+use Rattle.pm_planting.proofs.KindSides.{half_degrees}
 use Rattle.pm_objects.proofs.SameCounts.{IsAsMany, as_many, counted_keys}
 use Rattle.pm_planting.proofs.SideReading.{halves_in}
 

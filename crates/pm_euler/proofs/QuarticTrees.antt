@@ -25,11 +25,11 @@ use Rattle.pm_trees.specs.Degrees.{nodes_of}
 use Rattle.pm_objects.specs.Objects.{arity_of, letters_of}
 use Rattle.pm_objects.proofs.Sorting.{count_yes, count_no}
 use Rattle.pm_planting.specs.Kinds.{IsWordOfKinds, kind_of, kinds_of}
-use Rattle.pm_planting.specs.PlanePlanted.{IsPlantedPlane}
+use Rattle.pm_planting.specs.Kinds.{IsPlantedPlane}
 use Rattle.pm_euler.specs.Planted.{IsPlanted, shape_objects}
 use Rattle.pm_euler.specs.steps.ShapeRead.{IsPlantedOf, nodes_in, ranks_in}
 use Rattle.pm_planting.proofs.KindLaws.{kinds_nodes, same_pair}
-use Rattle.pm_planting.proofs.KindSides.{IsKind, of_leaf, of_node, kind_leaf, kind_node, kinds_each, kinds_good, kinds_sides, letters_in, sides_kinds}
+use Rattle.pm_planting.proofs.KindSides.{IsKind, of_leaf, of_node, kind_leaf, kind_node, kinds_each, kinds_good, letters_in}
 use Rattle.pm_planting.proofs.PlaneLaws.{plane_planted_length, plane_planted_leaves, plane_planted_nodes, plane_planted_no_odd, plane_planted_blossoming}
 use Rattle.pm_planting.proofs.PlaneTrees.{plane_planted_exists, plane_planted_unique}
 use Rattle.pm_planting.proofs.SideReading.{halves_in, one_reading}
@@ -234,7 +234,7 @@ pub planted_kinds : (t : Tree) (ranks word : List ℕ) (kinds : List (ℕ × ℕ
 planted_kinds t ranks word kinds h planted =
     subst (AreShapeOf (shape_of t) ranks)
     (one_reading (kinds_of (replicate (length ranks) 2) ranks (shape_objects (length ranks) 0 (shape_of t))) kinds word
-    (sides_kinds (replicate (length ranks) 2) ranks (shape_objects (length ranks) 0 (shape_of t)) ((OPEN ∷ word ++ CLOSE ∷ []) ∷ []) h.plane) planted)
+    h.plane planted)
     (shape_kinds (length ranks) [] ranks (shape_of t) (planted_many t ranks word h) (omega arith))
 
 pub record IsSameReading (t : Tree) (ranks : List ℕ) (u : Tree) (others : List ℕ) : Type 0 where
@@ -245,7 +245,7 @@ pub record IsSameReading (t : Tree) (ranks : List ℕ) (u : Tree) (others : List
 pub planted_reads_once : (t : Tree) (ranks : List ℕ) (u : Tree) (others word : List ℕ) → IsPlanted t ranks word → IsPlanted u others word → IsSameReading t ranks u others
 planted_reads_once t ranks u others word h k =
     let kinds : List (ℕ × ℕ) = kinds_of (replicate (length others) 2) others (shape_objects (length others) 0 (shape_of u)) in
-    let own : IsWordOfKinds kinds word = sides_kinds (replicate (length others) 2) others (shape_objects (length others) 0 (shape_of u)) ((OPEN ∷ word ++ CLOSE ∷ []) ∷ []) k.plane in
+    let own : IsWordOfKinds kinds word = k.plane in
     let a = planted_kinds t ranks word kinds h own in
     let b = planted_kinds u others word kinds k own in
     record { shapes = sym a.shape ∙ b.shape; ranks_are = sym a.ranks_are ∙ b.ranks_are }
@@ -348,8 +348,7 @@ planted_from_word word blossoming others =
       is_planted = record {
         forks = omega (arith, ends, same, total, many);
         plane = subst (λ (nodes : List Bool). IsPlantedPlane (replicate (length (ranks_in found.0)) 2) (ranks_in found.0) (shape_objects (length (ranks_in found.0)) 0 nodes) word) (sym whole.shape)
-            (kinds_sides (replicate (length (ranks_in found.0)) 2) (ranks_in found.0) found.0 ((OPEN ∷ word ++ CLOSE ∷ []) ∷ []) (shape_objects (length (ranks_in found.0)) 0 (nodes_in found.0)) found.1
-            (back.again (length (ranks_in found.0)) [] (omega arith)));
+            (subst (λ (kinds : List (ℕ × ℕ)). IsWordOfKinds kinds word) (sym (back.again (length (ranks_in found.0)) [] (omega arith))) found.1);
       };
     }
 
@@ -369,7 +368,7 @@ ranks_low (kind ∷ kinds) each quartic =
 pub planted_ranks : (t : Tree) (ranks word : List ℕ) → IsPlanted t ranks word → All (λ rank. rank < 3) ranks
 planted_ranks t ranks word h =
     let kinds : List (ℕ × ℕ) = kinds_of (replicate (length ranks) 2) ranks (shape_objects (length ranks) 0 (shape_of t)) in
-    let own : IsWordOfKinds kinds word = sides_kinds (replicate (length ranks) 2) ranks (shape_objects (length ranks) 0 (shape_of t)) ((OPEN ∷ word ++ CLOSE ∷ []) ∷ []) h.plane in
+    let own : IsWordOfKinds kinds word = h.plane in
     let each = kinds_each kinds ((OPEN ∷ word ++ CLOSE ∷ []) ∷ []) own in
     let quartic = quartic_kinds kinds each (λ half some other. sym (kinds_nodes kinds word own half some) ∙ planted_no_other t ranks word (2 * half) h (λ e. other (omega (arith, e)))) in
     subst (λ (rs : List ℕ). All (λ rank. rank < 3) rs) (planted_kinds t ranks word kinds h own).ranks_are (ranks_low kinds each quartic)

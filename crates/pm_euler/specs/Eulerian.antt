@@ -13,7 +13,7 @@ use Rattle.pm_euler.specs.Bounds.{eulerian_choices}
 use Rattle.pm_objects.specs.Codes.{codes_by_range}
 use Rattle.pm_objects.specs.Preorder.{ArePreordered}
 use Rattle.pm_euler.specs.Objects.{halves_of, nodes_of_profile, ranges_of}
-use Rattle.pm_planting.specs.PlanePlanted.{IsPlantedPlane}
+use Rattle.pm_planting.specs.Kinds.{IsPlantedPlane}
 use Rattle.pm_euler.specs.PlantedAnew.{IsPlantedAnew}
 use Rattle.pm_euler.specs.Closed.{IsCanonicalClosure}
 

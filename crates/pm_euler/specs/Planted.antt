@@ -1,7 +1,7 @@
 -- How a binary tree with bud patterns at its forks is a blossoming tree (Schaeffer 1997).
 use Rattle.std.specs.Prelude.{◌≡◌, ℕ, suc, Bool, true, false, List, [], ◌∷◌, length, replicate}
 use Rattle.pm_remy.specs.Tree.{Tree, leaves, shape_of}
-use Rattle.pm_planting.specs.PlanePlanted.{IsPlantedPlane}
+use Rattle.pm_planting.specs.Kinds.{IsPlantedPlane}
 
 -- The objects of a shape in preorder: the forks are numbered from one number on, and each leaf is the number behind them.
 abbrev pub shape_objects : ℕ → ℕ → List Bool → List ℕ

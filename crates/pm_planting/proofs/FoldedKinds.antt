@@ -8,9 +8,9 @@ use Rattle.pm_trees.specs.BudPattern.{IsPattern, HasRank}
 use Rattle.pm_trees.proofs.Tally.{tally, tally_is, tally_yes, tally_no}
 use Rattle.pm_planting.specs.steps.Folded.{front_of, behind, fold_letter, folded, AreKindsAlong}
 use Rattle.pm_planting.specs.steps.Folded.AreKindsAlong.{ended, a_leaf, a_node, no_object}
-use Rattle.pm_planting.specs.Kinds.{AreSidesOfKinds, IsWordOfKinds}
-use Rattle.pm_planting.specs.Kinds.AreSidesOfKinds.{none, leaf, node}
-use Rattle.pm_planting.specs.PlanePlanted.{filled}
+use Rattle.pm_planting.specs.Kinds.{AreSides, IsWordOfKinds}
+use Rattle.pm_planting.specs.Kinds.AreSides.{none, leaf, node}
+use Rattle.pm_planting.specs.Kinds.{filled}
 use Rattle.pm_planting.proofs.FilledRows.{filled_bud, filled_slot}
 use Rattle.pm_planting.proofs.SideTexts.{same_push}
 
@@ -115,7 +115,7 @@ read_inside : (half : ℕ) (kinds : List (ℕ × ℕ)) (pattern : List ℕ) (sid
 read_inside half kinds pattern sides p l k =
     read_filled pattern sides kinds p.letters (let t = tally_is BUD pattern in let a = p.as_long in let b = p.budded in omega (arith, t, a, b, l)) k
 
-read_sides : (kinds : List (ℕ × ℕ)) (texts : List (List ℕ)) → AreSidesOfKinds kinds texts → AreReadSides texts kinds
+read_sides : (kinds : List (ℕ × ℕ)) (texts : List (List ℕ)) → AreSides kinds texts → AreReadSides texts kinds
 read_sides _ _ none = no_sides
 read_sides _ _ (leaf later texts h) = one_side (LEAF ∷ []) texts ((0, 0) ∷ []) later read_leaf (read_sides later texts h)
 read_sides _ _ (node half rank under later pattern sides texts s p h l k) =
@@ -131,7 +131,7 @@ pub record IsReadRoot (kinds : List (ℕ × ℕ)) (word : List ℕ) : Type 0 whe
   pub has_rank : HasRank half (front_of (folded word)) rank
   pub along : AreKindsAlong word below
 
-root_of : (kinds : List (ℕ × ℕ)) (texts : List (List ℕ)) (word : List ℕ) → AreSidesOfKinds kinds texts → texts ≡ (OPEN ∷ word ++ CLOSE ∷ []) ∷ [] → IsReadRoot kinds word
+root_of : (kinds : List (ℕ × ℕ)) (texts : List (List ℕ)) (word : List ℕ) → AreSides kinds texts → texts ≡ (OPEN ∷ word ++ CLOSE ∷ []) ∷ [] → IsReadRoot kinds word
 root_of _ _ word none e = absurd cc
 root_of _ _ word (leaf later texts h) e = absurd (let a : LEAF ≡ OPEN = cc in omega (arith, a))
 root_of _ _ word (node half rank under later pattern sides texts s p h l k) e =
@@ -149,7 +149,7 @@ root_of _ _ word (node half rank under later pattern sides texts s p h l k) e =
       has_rank = subst (λ (xs : List ℕ). HasRank half xs rank) (sym (ap front_of entries ∙ front_whole pattern p.is_pattern.letters)) p;
       along = subst (λ (ks : List (ℕ × ℕ)). AreKindsAlong word (under ++ ks)) (sym alone) (subst (λ (xs : List ℕ). AreKindsAlong xs (under ++ [])) letters (r.along [] [] ended));
     } where
-      no_kinds : (kinds : List (ℕ × ℕ)) (texts : List (List ℕ)) → AreSidesOfKinds kinds texts → texts ≡ [] → kinds ≡ []
+      no_kinds : (kinds : List (ℕ × ℕ)) (texts : List (List ℕ)) → AreSides kinds texts → texts ≡ [] → kinds ≡ []
       no_kinds _ _ none e = refl
       no_kinds _ _ (leaf later texts h) e = absurd cc
       no_kinds _ _ (node half rank under later pattern sides texts s p h l k) e = absurd cc

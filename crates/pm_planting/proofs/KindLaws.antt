@@ -1,56 +1,99 @@
--- The objects of a word by their kinds: how many nodes of which degree and how many leaves there are.
-use Rattle.std.proofs.Common.{◌≡◌, ℕ, suc, ◌*◌, ◌<◌, ◌==◌, List, [], ◌∷◌, ◌++◌, length, map, get_or, refl, ap, sym, ◌∙◌, arith}
-use Rattle.std.specs.Prelude.{count_by}
-use Rattle.std.proofs.lemmas.List.{get_or-map}
-use Rattle.std.proofs.lemmas.List.FromFn.{fill_by_all}
-use Rattle.pm_trees.specs.declared.letters.TheConstants.{OPEN, CLOSE}
-use Rattle.pm_trees.specs.Blossoming.{leaves}
+-- Laws of the word of a plane tree with bud patterns, by the kinds of its objects: it is that of a blossoming tree, with as
+-- many letters, leaves and nodes of each degree as the kinds say.
+use Rattle.std.proofs.Common.{◌≡◌, ℕ, zero, suc, ◌-◌, ◌*◌, ◌/◌, ◌<◌, ◌≤◌, ◌==◌, cond, inl, inr, List, [], ◌∷◌, get_or, length, All, count_by, refl, ap, sym, ◌∙◌, arith, eq-eqb, ne_eqb}
+use Rattle.std.proofs.lemmas.Bool.{cases_eq}
+use Rattle.std.proofs.lemmas.List.{length-map}
+use Rattle.std.proofs.lemmas.List.Elements.{All-head, All-tail}
+use Rattle.std.proofs.lemmas.List.Sums.{sum_by-cons}
+use Rattle.pm_limits.specs.declared.TheConstants.{MAX_EDGES, MAX_DEGREE}
+use Rattle.pm_trees.specs.Word.{contour}
+use Rattle.pm_trees.specs.Blossoming.{IsBlossoming, leaves}
 use Rattle.pm_trees.specs.Degrees.{nodes_of}
-use Rattle.pm_planting.specs.Kinds.{IsWordOfKinds, kind_of, kinds_of}
-use Rattle.pm_objects.specs.Objects.{arity_of}
-use Rattle.pm_planting.specs.PlanePlanted.{IsPlantedPlane}
-use Rattle.pm_planting.proofs.KindSides.{IsKind, of_leaf, of_node, kind_leaf, kind_node, kinds_each, kinds_sides, halves_in_kinds}
-use Rattle.pm_objects.proofs.ObjectCounts.{numbers}
-use Rattle.pm_planting.proofs.PlaneLaws.{plane_planted_nodes, plane_planted_leaves}
-use Rattle.pm_objects.proofs.SameCounts.{counted_keys}
+use Rattle.pm_trees.proofs.Tally.{tally_is}
+use Rattle.pm_trees.proofs.Weights.{weight}
+use Rattle.pm_trees.proofs.Rings.{of_degree, of_degree_is, nodes_weight, bad, bad_is}
+use Rattle.pm_planting.specs.Kinds.{IsWordOfKinds}
+use Rattle.pm_planting.proofs.KindSides.{kinds_root}
+use Rattle.pm_planting.proofs.Rows.{object_value, object_value_leaf, object_value_node, total, total-nil, total-cons}
+use Rattle.pm_planting.proofs.RootRows.{root_length, root_leaves, root_weight, root_blossoming}
 use Rattle.pm_planting.proofs.SideReading.{halves_in}
-
--- the places of the kinds, taken for objects
-ranks_in : List (ℕ × ℕ) → List ℕ
-ranks_in kinds = map (λ (kind : ℕ × ℕ). kind.1) kinds
 
 pub same_pair : (p q : ℕ × ℕ) → p.0 ≡ q.0 → p.1 ≡ q.1 → p ≡ q
 same_pair p q first second = ap {B = ℕ × ℕ} (λ a. (a, p.1)) first ∙ ap {B = ℕ × ℕ} (λ b. (q.0, b)) second
 
-kind_at : (kinds : List (ℕ × ℕ)) (k : ℕ) → k < length kinds → IsKind (get_or kinds k (0, 0)) → get_or kinds k (0, 0) ≡ kind_of (halves_in kinds) (ranks_in kinds) k
-unfolding ranks_in
-kind_at kinds k less is =
-    let half : arity_of (halves_in kinds) k ≡ (get_or kinds k (0, 0)).0 = get_or-map (λ (kind : ℕ × ℕ). kind.0) kinds k (0, 0) 0 less in
-    let rank : get_or (ranks_in kinds) k 0 ≡ (get_or kinds k (0, 0)).1 = get_or-map (λ (kind : ℕ × ℕ). kind.1) kinds k (0, 0) 0 less in
-    elim is [
-      | of_leaf e ↦ e ∙ sym (kind_leaf (halves_in kinds) (ranks_in kinds) k (half ∙ ap (λ (kind : ℕ × ℕ). kind.0) e))
-      | of_node some few ↦ same_pair (get_or kinds k (0, 0)) (arity_of (halves_in kinds) k, get_or (ranks_in kinds) k 0) (sym half) (sym rank) ∙ sym (kind_node (halves_in kinds) (ranks_in kinds) k (omega (arith, half, some)))
+-- 1 at the nodes of the degree
+object_of_degree : (half object_half : ℕ) → 0 < half → object_value (of_degree (2 * half)) object_half ≡ cond (object_half == half) 1 0
+object_of_degree half zero s =
+    let c : cond {A = ℕ} (0 == half) 1 0 ≡ 0 = rw (ne_eqb 0 half (λ e. omega arith)) refl in
+    object_value_leaf (of_degree (2 * half)) ∙ sym c
+object_of_degree half (suc buds) s =
+    let a = object_value_node (of_degree (2 * half)) buds in
+    let b = of_degree_is (2 * half) (2 * suc buds) buds in
+    elim (cases_eq (suc buds) half) [
+      | inl e ↦
+          let c : cond {A = ℕ} (suc buds == half) 1 0 ≡ 1 = rw (eq-eqb (suc buds) half e) refl in
+          let d : cond {A = ℕ} (2 * suc buds == 2 * half) 1 0 ≡ 1 = rw (eq-eqb (2 * suc buds) (2 * half) (omega arith)) refl in
+          omega (arith, a, b, c, d)
+      | inr n ↦
+          let c : cond {A = ℕ} (suc buds == half) 1 0 ≡ 0 = rw (ne_eqb (suc buds) half n) refl in
+          let d : cond {A = ℕ} (2 * suc buds == 2 * half) 1 0 ≡ 0 = rw (ne_eqb (2 * suc buds) (2 * half) (λ e. n (omega arith))) refl in
+          omega (arith, a, b, c, d)
     ]
 
-places_kinds : (kinds : List (ℕ × ℕ)) (word : List ℕ) → IsWordOfKinds kinds word → kinds_of (halves_in kinds) (ranks_in kinds) (numbers (length kinds)) ≡ kinds
-places_kinds kinds word h =
-    sym (fill_by_all (kind_of (halves_in kinds) (ranks_in kinds)) kinds (length kinds) (0, 0) refl
-    (λ k less. kind_at kinds k less (kinds_each kinds ((OPEN ∷ word ++ CLOSE ∷ []) ∷ []) h k (0, 0) less)))
+total_of_degree : (half : ℕ) (halves : List ℕ) → 0 < half → total (of_degree (2 * half)) halves ≡ count_by (λ y. y == half) halves
+total_of_degree half [] s = total-nil (of_degree (2 * half))
+total_of_degree half (object_half ∷ halves) s =
+    let h = total_of_degree half halves s in
+    let a = total-cons (of_degree (2 * half)) object_half halves in
+    let b = object_of_degree half object_half s in
+    let c = sum_by-cons (λ (y : ℕ). cond (y == half) 1 0) object_half halves in
+    omega (arith, a, b, c, h)
+
+-- nothing at any object
+total_none : (f : ℕ → ℕ → ℕ) (halves : List ℕ) → All (λ half. object_value f half ≡ 0) halves → total f halves ≡ 0
+total_none f [] z = total-nil f
+total_none f (half ∷ halves) z =
+    let h = total_none f halves (All-tail (λ half. object_value f half ≡ 0) half halves z) in
+    let a = total-cons f half halves in
+    let b = All-head (λ half. object_value f half ≡ 0) half halves z in
+    omega (arith, a, b, h)
+
+object_of_no_degree : (d object_half : ℕ) → ((half : ℕ) → 0 < half → d ≡ 2 * half → ⊥) → object_value (of_degree d) object_half ≡ 0
+object_of_no_degree d zero n = object_value_leaf (of_degree d)
+object_of_no_degree d (suc buds) n =
+    let c : cond {A = ℕ} (2 * suc buds == d) 1 0 ≡ 0 = rw (ne_eqb (2 * suc buds) d (λ e. n (suc buds) (omega arith) (sym e))) refl in
+    object_value_node (of_degree d) buds ∙ of_degree_is d (2 * suc buds) buds ∙ c
+
+object_bad : (half : ℕ) → half ≤ MAX_DEGREE / 2 → object_value bad half ≡ 0
+object_bad zero l = object_value_leaf bad
+object_bad (suc buds) l =
+    let a = object_value_node bad buds in
+    let b = bad_is (2 * suc buds) buds in
+    omega (arith, a, b, l)
 
 module _ (kinds : List (ℕ × ℕ)) (word : List ℕ) (h : IsWordOfKinds kinds word) where
-  same_places : kinds_of (halves_in kinds) (ranks_in kinds) (numbers (length kinds)) ≡ kinds
-  same_places = places_kinds kinds word h
+  pub kinds_length : suc (length word) ≡ 2 * (length kinds - 1)
+  kinds_length =
+      let l = root_length (halves_in kinds) word (kinds_root kinds word h) in
+      let long = length-map kinds (λ (kind : ℕ × ℕ). kind.0) in
+      omega (arith, l, long)
 
-  plane : IsPlantedPlane (halves_in kinds) (ranks_in kinds) (numbers (length kinds)) word
-  plane = kinds_sides (halves_in kinds) (ranks_in kinds) kinds ((OPEN ∷ word ++ CLOSE ∷ []) ∷ []) (numbers (length kinds)) h same_places
-
-  counted : (half : ℕ) → count_by (λ object. arity_of (halves_in kinds) object == half) (numbers (length kinds)) ≡ count_by (λ y. y == half) (halves_in kinds)
-  counted half =
-      sym (counted_keys (arity_of (halves_in kinds)) half (numbers (length kinds)))
-      ∙ ap (count_by (λ y. y == half)) (sym (halves_in_kinds (halves_in kinds) (ranks_in kinds) (numbers (length kinds))) ∙ ap halves_in same_places)
+  -- a sum over the nodes
+  kinds_weight : (f : ℕ → ℕ → ℕ) → weight f (contour word) ≡ total f (halves_in kinds)
+  kinds_weight f = root_weight (halves_in kinds) word f (kinds_root kinds word h)
 
   pub kinds_nodes : (half : ℕ) → 0 < half → nodes_of word (2 * half) ≡ count_by (λ y. y == half) (halves_in kinds)
-  kinds_nodes half some = plane_planted_nodes (halves_in kinds) (ranks_in kinds) (numbers (length kinds)) word half some plane ∙ counted half
+  kinds_nodes half some = nodes_weight word (2 * half) ∙ kinds_weight (of_degree (2 * half)) ∙ total_of_degree half (halves_in kinds) some
+
+  pub kinds_no_odd : (d : ℕ) → ((half : ℕ) → 0 < half → d ≡ 2 * half → ⊥) → nodes_of word d ≡ 0
+  kinds_no_odd d n =
+      nodes_weight word d ∙ kinds_weight (of_degree d) ∙ total_none (of_degree d) (halves_in kinds) (λ k other less. object_of_no_degree d (get_or (halves_in kinds) k other) n)
 
   pub kinds_leaves : leaves word ≡ suc (count_by (λ y. y == 0) (halves_in kinds))
-  kinds_leaves = plane_planted_leaves (halves_in kinds) (ranks_in kinds) (numbers (length kinds)) word plane ∙ ap suc (counted 0)
+  kinds_leaves = root_leaves (halves_in kinds) word (kinds_root kinds word h) ∙ ap suc (tally_is 0 (halves_in kinds))
+
+  pub kinds_blossoming : All (λ half. half ≤ MAX_DEGREE / 2) (halves_in kinds) → length kinds ≤ suc MAX_EDGES → IsBlossoming word
+  kinds_blossoming within few =
+      let none = total_none bad (halves_in kinds) (λ k other less. object_bad (get_or (halves_in kinds) k other) (within k other less)) in
+      let long = length-map kinds (λ (kind : ℕ × ℕ). kind.0) in
+      root_blossoming (halves_in kinds) word (kinds_root kinds word h) none (omega (arith, long, few))

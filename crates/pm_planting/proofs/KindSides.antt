@@ -1,25 +1,22 @@
--- Plane trees with bud patterns by their objects, and by the kinds of these.
-use Rattle.std.proofs.Common.{◌≡◌, ℕ, suc, ◌+◌, ◌-◌, ◌*◌, ◌<◌, ◌==◌, ℤ, if◌then◌else◌, List, [], ◌∷◌, ◌++◌, length, map, take, drop, All, refl, ap, sym, ◌∙◌, subst, arith, length-append, append-nil, eq-eqb, ne_eqb, take-append-drop}
+-- Plane trees with bud patterns by the kinds of their objects.
+use Rattle.std.proofs.Common.{◌≡◌, ℕ, suc, ◌+◌, ◌-◌, ◌*◌, ◌<◌, ◌==◌, ℤ, if◌then◌else◌, List, [], ◌∷◌, ◌++◌, length, map, All, refl, ap, sym, ◌∙◌, subst, arith, length-append, append-nil, eq-eqb, ne_eqb}
 use Rattle.std.specs.Prelude.{slice_index_or, sum}
-use Rattle.std.proofs.Math.Seq.{take-append_seam, drop-append_seam}
-use Rattle.std.proofs.lemmas.List.{map-append, take-map, drop-map}
+use Rattle.std.proofs.lemmas.List.{map-append}
 use Rattle.std.proofs.lemmas.List.Elements.{All-nil, All-cons, All-append}
 use Rattle.std.proofs.lemmas.List.Sums.{sum_by-append, sum_by-cons}
 use Rattle.pm_trees.specs.declared.letters.TheConstants.{LEAF, OPEN, CLOSE}
 use Rattle.pm_trees.specs.Binomial.{choose}
-use Rattle.pm_trees.specs.BudPattern.{HasRank}
 use Rattle.pm_trees.proofs.Ranked.{patterns_ranked}
 use Rattle.pm_words.specs.Word.{IsGood}
 use Rattle.pm_words.specs.Plane.{Trees, none as no_trees, tree, how_many, letter_of, words_of}
 use Rattle.pm_words.proofs.PlaneWords.{IsGood-word_of}
 use Rattle.pm_objects.specs.Objects.{arity_of, letters_of}
-use Rattle.pm_planting.specs.PlanePlanted.{filled}
-use Rattle.pm_planting.specs.PlanePlanted.{AreSides}
-use Rattle.pm_planting.specs.PlanePlanted.AreSides.{none as no_sides, leaf as leaf_side, node as node_side}
-use Rattle.pm_planting.specs.Kinds.{AreSidesOfKinds, IsWordOfKinds, kind_of, kinds_of}
-use Rattle.pm_planting.specs.Kinds.AreSidesOfKinds.{none, leaf, node}
-use Rattle.pm_planting.proofs.PlaneTexts.{half_degrees}
-use Rattle.pm_planting.proofs.SideReading.{halves_in}
+use Rattle.pm_planting.specs.Kinds.{AreSides, IsWordOfKinds, filled, kind_of, kinds_of}
+use Rattle.pm_planting.specs.Kinds.AreSides.{none, leaf, node}
+use Rattle.pm_planting.proofs.SideTexts.{same_push}
+use Rattle.pm_planting.proofs.RootRows.{IsRootRow}
+use Rattle.pm_planting.proofs.FilledRows.{node_row}
+use Rattle.pm_planting.proofs.SideReading.{halves_in, kinds_rows}
 
 -- the kind of an object
 pub kind_leaf : (halves ranks : List ℕ) (object : ℕ) → arity_of halves object ≡ 0 → kind_of halves ranks object ≡ (0, 0)
@@ -34,56 +31,37 @@ kind_node halves ranks object some =
     let r : (if arity_of halves object == 0 then 0 else slice_index_or ranks object 0) ≡ slice_index_or ranks object 0 = rw b refl in
     cc
 
-pub sides_kinds : (halves ranks objects : List ℕ) (texts : List (List ℕ)) → AreSides halves ranks objects texts → AreSidesOfKinds (kinds_of halves ranks objects) texts
-sides_kinds halves ranks _ _ no_sides = none
-sides_kinds halves ranks _ _ (leaf_side object later texts z h) =
-    subst (λ (k : ℕ × ℕ). AreSidesOfKinds (k ∷ kinds_of halves ranks later) ((LEAF ∷ []) ∷ texts)) (sym (kind_leaf halves ranks object z))
-    (leaf (kinds_of halves ranks later) texts (sides_kinds halves ranks later texts h))
-sides_kinds halves ranks _ _ (node_side object under later pattern sides texts s p h e k) =
-    let text : List ℕ = OPEN ∷ filled pattern sides ++ CLOSE ∷ [] in
-    let kind : ℕ × ℕ = (arity_of halves object, slice_index_or ranks object 0) in
-    subst (λ (k : ℕ × ℕ). AreSidesOfKinds (k ∷ kinds_of halves ranks (under ++ later)) (text ∷ texts)) (sym (kind_node halves ranks object s))
-    (subst (λ (ks : List (ℕ × ℕ)). AreSidesOfKinds (kind ∷ ks) (text ∷ texts)) (sym (map-append (kind_of halves ranks) under later))
-    (node (arity_of halves object) (slice_index_or ranks object 0) (kinds_of halves ranks under) (kinds_of halves ranks later) pattern sides texts s p
-    (sides_kinds halves ranks under sides h) e (sides_kinds halves ranks later texts k)))
+-- lists of kinds that begin the same
+pub record AreSameFirst (p q : ℕ × ℕ) (xs ys : List (ℕ × ℕ)) : Type 0 where
+  pub halves : p.0 ≡ q.0
+  pub ranks : p.1 ≡ q.1
+  pub rest : xs ≡ ys
 
--- the half degree and the rank that a kind tells
-record IsOfKind (halves ranks : List ℕ) (object half rank : ℕ) : Type 0 where
-  half_is : arity_of halves object ≡ half
-  rank_is : 0 < half → slice_index_or ranks object 0 ≡ rank
+pub same_first : (p q : ℕ × ℕ) (xs ys : List (ℕ × ℕ)) → p ∷ xs ≡ q ∷ ys → AreSameFirst p q xs ys
+same_first p q xs ys e =
+    let k : p ≡ q = cc in
+    record { halves = ap (λ (k : ℕ × ℕ). k.0) k; ranks = ap (λ (k : ℕ × ℕ). k.1) k; rest = cc }
 
-of_kind : (halves ranks : List ℕ) (object half rank : ℕ) → kind_of halves ranks object ≡ (half, rank) → IsOfKind halves ranks object half rank
-of_kind halves ranks object half rank e =
-    let h : arity_of halves object ≡ half = ap (λ (k : ℕ × ℕ). k.0) e in
-    record {
-      half_is = h;
-      rank_is = λ some. ap (λ (k : ℕ × ℕ). k.1) (sym (kind_node halves ranks object (omega (arith, h, some))) ∙ e);
-    }
+-- no trees have no objects
+pub no_kinds : (kinds : List (ℕ × ℕ)) (texts : List (List ℕ)) → AreSides kinds texts → texts ≡ [] → kinds ≡ []
+no_kinds _ _ none e = refl
+no_kinds _ _ (leaf later texts h) e = absurd cc
+no_kinds _ _ (node half rank under later pattern sides texts s p h l k) e = absurd cc
 
-pub kinds_sides : (halves ranks : List ℕ) (kinds : List (ℕ × ℕ)) (texts : List (List ℕ)) (objects : List ℕ) → AreSidesOfKinds kinds texts → kinds_of halves ranks objects ≡ kinds → AreSides halves ranks objects texts
-kinds_sides halves ranks _ _ [] none e = no_sides
-kinds_sides halves ranks _ _ (object ∷ objects) none e = absurd cc
-kinds_sides halves ranks _ _ [] (leaf later texts h) e = absurd cc
-kinds_sides halves ranks _ _ (object ∷ objects) (leaf later texts h) e =
-    let first : kind_of halves ranks object ≡ (0, 0) = cc in
-    let rest : kinds_of halves ranks objects ≡ later = cc in
-    leaf_side object objects texts (of_kind halves ranks object 0 0 first).half_is (kinds_sides halves ranks later texts objects h rest)
-kinds_sides halves ranks _ _ [] (node half rank under later pattern sides texts s p h l k) e = absurd cc
-kinds_sides halves ranks _ _ (object ∷ objects) (node half rank under later pattern sides texts s p h l k) e =
-    let first : kind_of halves ranks object ≡ (half, rank) = cc in
-    let rest : kinds_of halves ranks objects ≡ under ++ later = cc in
-    let n : ℕ = length under in
-    let f : ℕ → ℕ × ℕ = kind_of halves ranks in
-    let below : kinds_of halves ranks (take n objects) ≡ under = sym (take-map f n objects) ∙ ap (take n) rest ∙ take-append_seam under later in
-    let behind : kinds_of halves ranks (drop n objects) ≡ later = sym (drop-map f n objects) ∙ ap (drop n) rest ∙ drop-append_seam under later in
-    let kind = of_kind halves ranks object half rank first in
-    let half_is = kind.half_is in
-    let text : List ℕ = OPEN ∷ filled pattern sides ++ CLOSE ∷ [] in
-    let ranked : HasRank (arity_of halves object) pattern (slice_index_or ranks object 0) =
-    subst (λ (r : ℕ). HasRank (arity_of halves object) pattern r) (sym (kind.rank_is s)) (subst (λ (h : ℕ). HasRank h pattern rank) (sym half_is) p) in
-    subst (λ (os : List ℕ). AreSides halves ranks (object ∷ os) (text ∷ texts)) (take-append-drop n objects)
-    (node_side object (take n objects) (drop n objects) pattern sides texts (omega (arith, half_is, s)) ranked
-    (kinds_sides halves ranks under sides (take n objects) h below) (l ∙ sym half_is) (kinds_sides halves ranks later texts (drop n objects) k behind))
+root_of : (kinds : List (ℕ × ℕ)) (texts : List (List ℕ)) (word : List ℕ) → AreSides kinds texts → texts ≡ (OPEN ∷ word ++ CLOSE ∷ []) ∷ [] → IsRootRow (halves_in kinds) word
+root_of _ _ word none e = absurd cc
+root_of _ _ word (leaf later texts h) e = absurd (let a : LEAF ≡ OPEN = cc in omega (arith, a))
+root_of _ _ word (node half rank under later pattern sides texts s p h l k) e =
+    let t : filled pattern sides ++ CLOSE ∷ [] ≡ word ++ CLOSE ∷ [] = cc in
+    let w = same_push (filled pattern sides) word CLOSE CLOSE t in
+    let alone = no_kinds later texts k (cc) in
+    let all : under ≡ under ++ later = sym (ap (λ (ks : List (ℕ × ℕ)). under ++ ks) alone ∙ append-nil under) in
+    let root = node_row half pattern (halves_in under) sides p.is_pattern l (kinds_rows under sides h) in
+    subst (λ (ks : List (ℕ × ℕ)). IsRootRow (half ∷ halves_in ks) word) all (subst (IsRootRow (half ∷ halves_in under)) w.lists root)
+
+-- the row of the root node
+pub kinds_root : (kinds : List (ℕ × ℕ)) (word : List ℕ) → IsWordOfKinds kinds word → IsRootRow (halves_in kinds) word
+kinds_root kinds word h = root_of kinds ((OPEN ∷ word ++ CLOSE ∷ []) ∷ []) word h refl
 
 -- the letters of the objects of these kinds
 abbrev pub letters_in : List (ℕ × ℕ) → List ℤ
@@ -94,7 +72,7 @@ record HaveTrees (kinds : List (ℕ × ℕ)) (many : ℕ) : Type 0 where
   counted : how_many trees ≡ many
   words : words_of trees ≡ letters_in kinds
 
-kinds_trees : (kinds : List (ℕ × ℕ)) (texts : List (List ℕ)) → AreSidesOfKinds kinds texts → HaveTrees kinds (length texts)
+kinds_trees : (kinds : List (ℕ × ℕ)) (texts : List (List ℕ)) → AreSides kinds texts → HaveTrees kinds (length texts)
 kinds_trees _ _ none = record { trees = no_trees; counted = refl; words = refl }
 kinds_trees _ _ (leaf later texts h) =
     let t = kinds_trees later texts h in
@@ -129,7 +107,7 @@ letters_of_kinds halves ranks [] = refl
 letters_of_kinds halves ranks (object ∷ objects) = ap (λ (ls : List ℤ). letter_of (arity_of halves object) ∷ ls) (letters_of_kinds halves ranks objects)
 
 -- each tree is counted once among the children of an object or as a first one
-pub kinds_long : (kinds : List (ℕ × ℕ)) (texts : List (List ℕ)) → AreSidesOfKinds kinds texts → length kinds ≡ length texts + sum (halves_in kinds)
+pub kinds_long : (kinds : List (ℕ × ℕ)) (texts : List (List ℕ)) → AreSides kinds texts → length kinds ≡ length texts + sum (halves_in kinds)
 kinds_long _ _ none = refl
 kinds_long _ _ (leaf later texts h) = let a = kinds_long later texts h in omega (arith, a, sum_by-cons (λ x. x) 0 (halves_in later))
 kinds_long _ _ (node half rank under later pattern sides texts s p h l k) =
@@ -143,11 +121,15 @@ pub data IsKind (kind : ℕ × ℕ) : Type 0 where
   of_leaf : kind ≡ (0, 0) → IsKind kind
   of_node : 0 < kind.0 → kind.1 < choose (2 * kind.0 - 1) kind.0 → IsKind kind
 
-pub kinds_each : (kinds : List (ℕ × ℕ)) (texts : List (List ℕ)) → AreSidesOfKinds kinds texts → All IsKind kinds
+pub kinds_each : (kinds : List (ℕ × ℕ)) (texts : List (List ℕ)) → AreSides kinds texts → All IsKind kinds
 kinds_each _ _ none = All-nil IsKind
 kinds_each _ _ (leaf later texts h) = All-cons IsKind (0, 0) later (of_leaf refl) (kinds_each later texts h)
 kinds_each _ _ (node half rank under later pattern sides texts s p h l k) =
     All-cons IsKind (half, rank) (under ++ later) (of_node s ((patterns_ranked half s).below pattern rank p)) (All-append IsKind under later (kinds_each under sides h) (kinds_each later texts k))
+
+-- the half degrees of these objects
+abbrev pub half_degrees : List ℕ → List ℕ → List ℕ
+half_degrees halves objects = map (λ object. arity_of halves object) objects
 
 pub halves_in_kinds : (halves ranks objects : List ℕ) → halves_in (kinds_of halves ranks objects) ≡ half_degrees halves objects
 halves_in_kinds halves ranks [] = refl

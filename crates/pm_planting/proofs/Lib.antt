@@ -4,7 +4,6 @@ pub mod KindLaws
 pub mod KindSides
 pub mod PlaneLaws
 pub mod PlaneSteps
-pub mod PlaneTexts
 pub mod PlaneTrees
 pub mod ReadingSteps
 pub mod RootRows

@@ -1,8 +1,8 @@
 -- The writing of a planted plane tree's word: what lies ahead, and what it gives with the objects that are left.
 use Rattle.std.proofs.Common.{◌≡◌, ℕ, suc, ◌+◌, ◌-◌, ◌*◌, ◌<◌, ◌≤◌, ◌==◌, if◌then◌else◌, List, [], ◌∷◌, ◌++◌, inl, inr, length, reverse, drop, All, refl, sym, ◌∙◌, ap, subst, arith, append_assoc, append-nil, drop-cons, length-drop, length-append, eq-eqb, ne_eqb}
-use Rattle.std.specs.Prelude.{slice_index, slice_index_or}
+use Rattle.std.specs.Prelude.{slice_index}
 use Rattle.std.proofs.lemmas.Bool.{cases_eq}
-use Rattle.std.proofs.lemmas.List.{reverse-append, reverse-reverse}
+use Rattle.std.proofs.lemmas.List.{length-map, reverse-append, reverse-reverse}
 use Rattle.pm_trees.specs.declared.letters.TheConstants.{LEAF, BUD, OPEN, CLOSE}
 use Rattle.pm_trees.specs.declared.patterns.TheConstants.{SLOT}
 use Rattle.pm_trees.specs.Binomial.{choose}
@@ -12,9 +12,10 @@ use Rattle.pm_trees.proofs.Ranking.{IsTwo}
 use Rattle.pm_trees.proofs.Tally.{tally, tally-nil, tally_yes, tally_no, tally-append}
 use Rattle.pm_words.specs.Word.{IsGood}
 use Rattle.pm_objects.specs.Objects.{arity_of, letters_of}
-use Rattle.pm_planting.specs.PlanePlanted.{filled}
-use Rattle.pm_planting.specs.PlanePlanted.{AreSides, IsPlantedPlane}
-use Rattle.pm_planting.specs.PlanePlanted.AreSides.{none, leaf, node}
+use Rattle.pm_planting.specs.Kinds.{filled}
+use Rattle.pm_planting.specs.Kinds.{AreSides, IsPlantedPlane, kind_of, kinds_of}
+use Rattle.pm_planting.specs.Kinds.AreSides.{none, leaf, node}
+use Rattle.pm_planting.proofs.KindSides.{kind_leaf, kind_node, same_first}
 use Rattle.pm_planting.proofs.SideTexts.{same_push}
 use Rattle.pm_planting.proofs.FilledRows.{filled_bud, filled_slot}
 use Rattle.pm_planting.proofs.PlaneTrees.{node_object, plane_planted_exists}
@@ -63,70 +64,66 @@ placed_pattern (x ∷ pattern) rest (side ∷ sides) texts two l = elim two.0 [
 ]
 
 -- trees beside others
-beside : (halves ranks xs ys : List ℕ) (texts others : List (List ℕ)) → AreSides halves ranks xs texts → AreSides halves ranks ys others → AreSides halves ranks (xs ++ ys) (texts ++ others)
-beside halves ranks _ ys _ others none k = k
-beside halves ranks _ ys _ others (leaf object later texts z h) k = leaf object (later ++ ys) (texts ++ others) z (beside halves ranks later ys texts others h k)
-beside halves ranks _ ys _ others (node object under later pattern sides texts some p h n i) k =
-    subst (λ (xs : List ℕ). AreSides halves ranks (object ∷ xs) ((OPEN ∷ filled pattern sides ++ CLOSE ∷ []) ∷ (texts ++ others))) (sym (append_assoc under later ys))
-    (node object under (later ++ ys) pattern sides (texts ++ others) some p h n (beside halves ranks later ys texts others i k))
+beside : (xs ys : List (ℕ × ℕ)) (texts others : List (List ℕ)) → AreSides xs texts → AreSides ys others → AreSides (xs ++ ys) (texts ++ others)
+beside _ ys _ others none k = k
+beside _ ys _ others (leaf later texts h) k = leaf (later ++ ys) (texts ++ others) (beside later ys texts others h k)
+beside _ ys _ others (node half rank under later pattern sides texts some p h n i) k =
+    subst (λ (xs : List (ℕ × ℕ)). AreSides ((half, rank) ∷ xs) ((OPEN ∷ filled pattern sides ++ CLOSE ∷ []) ∷ (texts ++ others))) (sym (append_assoc under later ys))
+    (node half rank under (later ++ ys) pattern sides (texts ++ others) some p h n (beside later ys texts others i k))
 
 -- there are no more trees than objects
-sides_within : (halves ranks xs : List ℕ) (texts : List (List ℕ)) → AreSides halves ranks xs texts → length texts ≤ length xs
-sides_within halves ranks _ _ none = omega arith
-sides_within halves ranks _ _ (leaf object later texts z h) = let t = sides_within halves ranks later texts h in omega arith
-sides_within halves ranks _ _ (node object under later pattern sides texts some p h n k) =
-    let t = sides_within halves ranks later texts k in
+sides_within : (xs : List (ℕ × ℕ)) (texts : List (List ℕ)) → AreSides xs texts → length texts ≤ length xs
+sides_within _ _ none = omega arith
+sides_within _ _ (leaf later texts h) = let t = sides_within later texts h in omega arith
+sides_within _ _ (node half rank under later pattern sides texts some p h n k) =
+    let t = sides_within later texts k in
     let l = length-append under later in
     omega (arith, t, l)
 
 -- the first object is a leaf, with the trees after it
-record IsLeafFirst (halves ranks later : List ℕ) (texts : List (List ℕ)) : Type 0 where
+record IsLeafFirst (later : List (ℕ × ℕ)) (texts : List (List ℕ)) : Type 0 where
   others : List (List ℕ)
   texts_are : texts ≡ (LEAF ∷ []) ∷ others
-  are_sides : AreSides halves ranks later others
+  are_sides : AreSides later others
 
-leaf_first : (halves ranks xs : List ℕ) (texts : List (List ℕ)) (object : ℕ) (later : List ℕ) → AreSides halves ranks xs texts → xs ≡ object ∷ later → arity_of halves object ≡ 0 → IsLeafFirst halves ranks later texts
-leaf_first halves ranks _ _ object later none e z = cc
-leaf_first halves ranks _ _ object later (leaf first others texts y h) e z =
-    let o : others ≡ later = cc in
-    record { others = texts; texts_are = refl; are_sides = subst (λ (xs : List ℕ). AreSides halves ranks xs texts) o h }
-leaf_first halves ranks _ _ object later (node first under others pattern sides texts some p h n k) e z =
-    absurd (
-    let o : first ≡ object = cc in
-    let f = ap (arity_of halves) o in
-    omega arith
-    )
+leaf_first : (xs : List (ℕ × ℕ)) (texts : List (List ℕ)) (later : List (ℕ × ℕ)) → AreSides xs texts → xs ≡ (0, 0) ∷ later → IsLeafFirst later texts
+leaf_first _ _ later none e = cc
+leaf_first _ _ later (leaf others texts h) e =
+    record { others = texts; texts_are = refl; are_sides = subst (λ (xs : List (ℕ × ℕ)). AreSides xs texts) (same_first (0, 0) (0, 0) others later e).rest h }
+leaf_first _ _ later (node half rank under others pattern sides texts some p h n k) e =
+    absurd (let f : half ≡ 0 = (same_first (half, rank) (0, 0) (under ++ others) later e).halves in omega (arith, f, some))
 
 -- the first object is a node, with the trees in its slots and those after it
-record IsNodeFirst (halves ranks : List ℕ) (object : ℕ) (later : List ℕ) (texts : List (List ℕ)) : Type 0 where
+record IsNodeFirst (half rank : ℕ) (later : List (ℕ × ℕ)) (texts : List (List ℕ)) : Type 0 where
   pattern : List ℕ
   sides : List (List ℕ)
   others : List (List ℕ)
-  has_rank : HasRank (arity_of halves object) pattern (slice_index_or ranks object 0)
-  counted : length sides ≡ arity_of halves object
+  has_rank : HasRank half pattern rank
+  counted : length sides ≡ half
   texts_are : texts ≡ (OPEN ∷ filled pattern sides ++ CLOSE ∷ []) ∷ others
-  are_sides : AreSides halves ranks later (sides ++ others)
+  are_sides : AreSides later (sides ++ others)
 
-node_first : (halves ranks xs : List ℕ) (texts : List (List ℕ)) (object : ℕ) (later : List ℕ) → AreSides halves ranks xs texts → xs ≡ object ∷ later → 0 < arity_of halves object → IsNodeFirst halves ranks object later texts
-node_first halves ranks _ _ object later none e some = cc
-node_first halves ranks _ _ object later (leaf first others texts z h) e some =
-    absurd (
-    let o : first ≡ object = cc in
-    let f = ap (arity_of halves) o in
-    omega arith
-    )
-node_first halves ranks _ _ object later (node first under others pattern sides texts more p h n k) e some =
-    let o : first ≡ object = cc in
-    let l : under ++ others ≡ later = cc in
+node_first : (xs : List (ℕ × ℕ)) (texts : List (List ℕ)) (half rank : ℕ) (later : List (ℕ × ℕ)) → AreSides xs texts → xs ≡ (half, rank) ∷ later → 0 < half → IsNodeFirst half rank later texts
+node_first _ _ half rank later none e some = cc
+node_first _ _ half rank later (leaf others texts h) e some =
+    absurd (let f : 0 ≡ half = (same_first (0, 0) (half, rank) others later e).halves in omega (arith, f, some))
+node_first _ _ half rank later (node first place under others pattern sides texts more p h n k) e some =
+    let o = same_first (first, place) (half, rank) (under ++ others) later e in
+    let f : first ≡ half = o.halves in
+    let g : place ≡ rank = o.ranks in
     record {
       pattern = pattern;
       sides = sides;
       others = texts;
-      has_rank = subst (λ (i : ℕ). HasRank (arity_of halves i) pattern (slice_index_or ranks i 0)) o p;
-      counted = n ∙ ap (arity_of halves) o;
+      has_rank = subst (λ (h : ℕ). HasRank h pattern rank) f (subst (λ (r : ℕ). HasRank first pattern r) g p);
+      counted = n ∙ f;
       texts_are = refl;
-      are_sides = subst (λ (xs : List ℕ). AreSides halves ranks xs (sides ++ texts)) l (beside halves ranks under others sides texts h k);
+      are_sides = subst (λ (xs : List (ℕ × ℕ)). AreSides xs (sides ++ texts)) o.rest (beside under others sides texts h k);
     }
+
+-- where an object comes next, its kind does
+kinds_next : (halves ranks objects others : List ℕ) (object : ℕ) (kind : ℕ × ℕ) → objects ≡ object ∷ others → kind_of halves ranks object ≡ kind → kinds_of halves ranks objects ≡ kind ∷ kinds_of halves ranks others
+kinds_next halves ranks objects others object kind first e = ap (kinds_of halves ranks) first ∙ ap (λ (k : ℕ × ℕ). k ∷ kinds_of halves ranks others) e
 
 -- the pattern of a rank is put before other letters
 record IsPut (half : ℕ) (pattern rest : List ℕ) (sides texts : List (List ℕ)) : Type 0 where
@@ -142,20 +139,24 @@ pattern_put half rank pattern rest sides texts h l =
 -- the letters so far, and what lies ahead with the objects from this place on, are the word of the planted tree
 pub record IsBegun (halves ranks objects letters ahead : List ℕ) (next : ℕ) : Type 0 where
   pub texts : List (List ℕ)
-  pub are_sides : AreSides halves ranks (drop next objects) texts
+  pub are_sides : AreSides (kinds_of halves ranks (drop next objects)) texts
   pub counted : length texts ≡ tally SLOT (reverse ahead)
   pub is_planted : IsPlantedPlane halves ranks objects (letters ++ placed (reverse ahead) texts)
 
 -- the root is a node object
-root_some : (halves ranks xs : List ℕ) (texts : List (List ℕ)) (word : List ℕ) → AreSides halves ranks xs texts → texts ≡ (OPEN ∷ word ++ CLOSE ∷ []) ∷ [] → 0 < arity_of halves (slice_index xs 0)
-root_some halves ranks _ _ word none e = cc
-root_some halves ranks _ _ word (leaf object later texts z h) e = absurd (let a : LEAF ≡ OPEN = cc in omega (arith, a))
-root_some halves ranks _ _ word (node object under later pattern sides texts some p h n k) e = some
+root_some : (halves ranks objects : List ℕ) (kinds : List (ℕ × ℕ)) (texts : List (List ℕ)) (word : List ℕ) → AreSides kinds texts → texts ≡ (OPEN ∷ word ++ CLOSE ∷ []) ∷ [] → kinds_of halves ranks objects ≡ kinds
+    → 0 < arity_of halves (slice_index objects 0)
+root_some halves ranks objects _ _ word none e same = cc
+root_some halves ranks objects _ _ word (leaf later texts h) e same = absurd (let a : LEAF ≡ OPEN = cc in omega (arith, a))
+root_some halves ranks [] _ _ word (node half rank under later pattern sides texts some p h n k) e same = absurd cc
+root_some halves ranks (object ∷ objects) _ _ word (node half rank under later pattern sides texts some p h n k) e same =
+    let f : arity_of halves object ≡ half = (same_first (kind_of halves ranks object) (half, rank) (kinds_of halves ranks objects) (under ++ later) same).halves in
+    omega (arith, f, some)
 
 pub root_within : (halves ranks objects : List ℕ) → All IsHalfDegree halves → ((k : ℕ) → k < length halves → slice_index ranks k < choose (2 * slice_index halves k - 1) (slice_index halves k)) → 1 < length objects → IsGood 1 (letters_of halves objects) → slice_index objects 0 < length halves
 root_within halves ranks objects half_degrees below some good =
     let w = plane_planted_exists halves ranks objects half_degrees below some good in
-    node_object halves (slice_index objects 0) (root_some halves ranks objects ((OPEN ∷ w.0 ++ CLOSE ∷ []) ∷ []) w.0 w.1 refl)
+    node_object halves (slice_index objects 0) (root_some halves ranks objects (kinds_of halves ranks objects) ((OPEN ∷ w.0 ++ CLOSE ∷ []) ∷ []) w.0 w.1 refl refl)
 
 -- the half degree of a node object
 pub half_degree_at : (halves : List ℕ) (object : ℕ) → All IsHalfDegree halves → object < length halves → IsHalfDegree (slice_index halves object)
@@ -171,9 +172,10 @@ begun_start halves ranks objects letters pattern ahead half_degrees below many g
     let w = plane_planted_exists halves ranks objects half_degrees below many good in
     let root : ℕ = slice_index objects 0 in
     let whole : List (List ℕ) = (OPEN ∷ w.0 ++ CLOSE ∷ []) ∷ [] in
-    let some : 0 < arity_of halves root = root_some halves ranks objects whole w.0 w.1 refl in
+    let some : 0 < arity_of halves root = root_some halves ranks objects (kinds_of halves ranks objects) whole w.0 w.1 refl refl in
     let first : objects ≡ root ∷ drop 1 objects = drop-cons objects 0 0 (omega arith) in
-    let n = node_first halves ranks objects whole root (drop 1 objects) w.1 first some in
+    let n = node_first (kinds_of halves ranks objects) whole (arity_of halves root) (slice_index ranks root) (kinds_of halves ranks (drop 1 objects)) w.1
+    (kinds_next halves ranks objects (drop 1 objects) root (arity_of halves root, slice_index ranks root) first (kind_node halves ranks root some)) some in
     let same : n.pattern ≡ pattern = same_pattern (arity_of halves root) (slice_index ranks root) n.pattern pattern some n.has_rank p in
     let none_more : n.others ≡ [] = (let e = n.texts_are in cc) in
     let word : w.0 ≡ filled n.pattern n.sides = (same_push w.0 (filled n.pattern n.sides) CLOSE CLOSE (let e = n.texts_are in cc)).lists in
@@ -186,7 +188,7 @@ begun_start halves ranks objects letters pattern ahead half_degrees below many g
     let counted : length n.sides ≡ tally SLOT (reverse ahead) = (let s = put.slots in let t = ap (tally SLOT) stack in omega (arith, n.counted)) in
     record {
       texts = n.sides;
-      are_sides = subst (AreSides halves ranks (drop 1 objects)) all n.are_sides;
+      are_sides = subst (AreSides (kinds_of halves ranks (drop 1 objects))) all n.are_sides;
       counted = counted;
       is_planted = subst (IsPlantedPlane halves ranks objects) (sym rest ∙ ap (λ (xs : List ℕ). xs ++ placed (reverse ahead) n.sides) (sym l)) w.1;
     }
@@ -219,9 +221,10 @@ begun_slot halves ranks objects letters items ahead next x b e s = b.counted ∙
 pub next_within : (halves ranks objects letters items ahead : List ℕ) (next x : ℕ) → IsBegun halves ranks objects letters items next → items ≡ ahead ++ x ∷ [] → x ≡ SLOT → next < length objects
 next_within halves ranks objects letters items ahead next x b e s =
     let c = begun_slot halves ranks objects letters items ahead next x b e s in
-    let w = sides_within halves ranks (drop next objects) b.texts b.are_sides in
+    let w = sides_within (kinds_of halves ranks (drop next objects)) b.texts b.are_sides in
     let d = length-drop next objects in
-    omega (arith, c, w, d)
+    let m = length-map (drop next objects) (kind_of halves ranks) in
+    omega (arith, c, w, d, m)
 
 -- the slot is a leaf
 pub begun_leaf : (halves ranks objects letters more items ahead : List ℕ) (next after x : ℕ) → IsBegun halves ranks objects letters items next → items ≡ ahead ++ x ∷ [] → x ≡ SLOT → length halves ≤ slice_index objects next → more ≡ letters ++ LEAF ∷ [] → after ≡ suc next
@@ -233,7 +236,8 @@ begun_leaf halves ranks objects letters more items ahead next after x b e s abov
       | inl z ↦ z
       | inr n ↦ absurd (let w = node_object halves object (omega arith) in omega arith)
     ] in
-    let l = leaf_first halves ranks (drop next objects) b.texts object (drop (suc next) objects) b.are_sides first none_under in
+    let l = leaf_first (kinds_of halves ranks (drop next objects)) b.texts (kinds_of halves ranks (drop (suc next) objects)) b.are_sides
+    (kinds_next halves ranks (drop next objects) (drop (suc next) objects) object (0, 0) first (kind_leaf halves ranks object none_under)) in
     let c = begun_slot halves ranks objects letters items ahead next x b e s in
     let t = ap length l.texts_are in
     let r = last_first items ahead x e in
@@ -252,7 +256,8 @@ pub begun_node : (halves ranks objects letters more items ahead pattern later : 
 begun_node halves ranks objects letters more items ahead pattern later next after x b e s some m p a i =
     let object : ℕ = slice_index objects next in
     let first = drop-cons objects next 0 (next_within halves ranks objects letters items ahead next x b e s) in
-    let n = node_first halves ranks (drop next objects) b.texts object (drop (suc next) objects) b.are_sides first some in
+    let n = node_first (kinds_of halves ranks (drop next objects)) b.texts (arity_of halves object) (slice_index ranks object) (kinds_of halves ranks (drop (suc next) objects)) b.are_sides
+    (kinds_next halves ranks (drop next objects) (drop (suc next) objects) object (arity_of halves object, slice_index ranks object) first (kind_node halves ranks object some)) some in
     let same : n.pattern ≡ pattern = same_pattern (arity_of halves object) (slice_index ranks object) n.pattern pattern some n.has_rank p in
     let c = begun_slot halves ranks objects letters items ahead next x b e s in
     let t = ap length n.texts_are in

@@ -10,9 +10,9 @@ use Rattle.pm_trees.proofs.Dyck.{IsDyck}
 use Rattle.pm_trees.proofs.Dyck.IsDyck.{empty, letter, bracket}
 use Rattle.pm_trees.proofs.Ranked.{patterns_ranked}
 use Rattle.pm_trees.proofs.Tally.{tally, tally_is, tally_yes, tally_no}
-use Rattle.pm_planting.specs.Kinds.{AreSidesOfKinds, IsWordOfKinds}
-use Rattle.pm_planting.specs.Kinds.AreSidesOfKinds.{none, leaf, node}
-use Rattle.pm_planting.specs.PlanePlanted.{filled}
+use Rattle.pm_planting.specs.Kinds.{AreSides, IsWordOfKinds}
+use Rattle.pm_planting.specs.Kinds.AreSides.{none, leaf, node}
+use Rattle.pm_planting.specs.Kinds.{filled}
 use Rattle.pm_planting.proofs.FilledRows.{AreRows, filled_bud, filled_slot, node_row}
 use Rattle.pm_planting.proofs.FilledRows.AreRows.{no_rows, one_row}
 use Rattle.pm_planting.proofs.RootRows.{root_side}
@@ -23,7 +23,7 @@ use Rattle.pm_planting.proofs.SideTexts.{same_push}
 abbrev pub halves_in : List (ℕ × ℕ) → List ℕ
 halves_in kinds = map (λ (kind : ℕ × ℕ). kind.0) kinds
 
-pub kinds_rows : (kinds : List (ℕ × ℕ)) (texts : List (List ℕ)) → AreSidesOfKinds kinds texts → AreRows (halves_in kinds) texts
+pub kinds_rows : (kinds : List (ℕ × ℕ)) (texts : List (List ℕ)) → AreSides kinds texts → AreRows (halves_in kinds) texts
 kinds_rows _ _ none = no_rows
 kinds_rows _ _ (leaf later texts h) = one_row (0 ∷ []) (halves_in later) (LEAF ∷ []) texts row_leaf (kinds_rows later texts h)
 kinds_rows _ _ (node half rank under later pattern sides texts s p h e k) =
@@ -65,7 +65,7 @@ pub data IsSideText : List ℕ → Type 0 where
   a_leaf : IsSideText (LEAF ∷ [])
   a_node : (xs : List ℕ) → IsDyck xs → IsSideText (OPEN ∷ xs ++ CLOSE ∷ [])
 
-pub side_texts : (kinds : List (ℕ × ℕ)) (texts : List (List ℕ)) → AreSidesOfKinds kinds texts → All IsSideText texts
+pub side_texts : (kinds : List (ℕ × ℕ)) (texts : List (List ℕ)) → AreSides kinds texts → All IsSideText texts
 side_texts _ _ none = All-nil IsSideText
 side_texts _ _ (leaf later texts h) = All-cons IsSideText (LEAF ∷ []) texts a_leaf (side_texts later texts h)
 side_texts _ _ (node half rank under later pattern sides texts s p h e k) =
@@ -174,12 +174,12 @@ same_filling [] q texts others f g e = no_entry (first_entry [] texts f) (first_
 same_filling (x ∷ p) q texts others f g e =
     same_entry x p q texts others (first_entry (x ∷ p) texts f) (first_entry q others g) e (λ later more rest h k i. same_filling p later more rest h k i)
 
-filling : (half : ℕ) (kinds : List (ℕ × ℕ)) (pattern : List ℕ) (sides : List (List ℕ)) → IsPattern half pattern → AreSidesOfKinds kinds sides → length sides ≡ half → IsFilling pattern sides
+filling : (half : ℕ) (kinds : List (ℕ × ℕ)) (pattern : List ℕ) (sides : List (List ℕ)) → IsPattern half pattern → AreSides kinds sides → length sides ≡ half → IsFilling pattern sides
 filling half kinds pattern sides p h e =
     record { letters = p.letters; as_many = let t = tally_is BUD pattern in let l = p.as_long in let b = p.budded in omega (arith, t, l, b, e); sides = side_texts kinds sides h }
 
 -- the same texts are those of objects of the same kinds
-same_kinds : (kinds others : List (ℕ × ℕ)) (texts also : List (List ℕ)) → AreSidesOfKinds kinds texts → AreSidesOfKinds others also → texts ≡ also → kinds ≡ others
+same_kinds : (kinds others : List (ℕ × ℕ)) (texts also : List (List ℕ)) → AreSides kinds texts → AreSides others also → texts ≡ also → kinds ≡ others
 same_kinds _ _ _ _ none none e = refl
 same_kinds _ _ _ _ none (leaf later texts h) e = absurd cc
 same_kinds _ _ _ _ none (node half rank under later pattern sides texts s p h l k) e = absurd cc

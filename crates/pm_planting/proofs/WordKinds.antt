@@ -15,9 +15,9 @@ use Rattle.pm_trees.proofs.Ranked.{patterns_ranked}
 use Rattle.pm_trees.proofs.Rings.{bad, bad_is, none_bad, contour_weight}
 use Rattle.pm_trees.proofs.Tally.{tally, tally_is, tally-nil, tally_yes, tally_no, IsOneOf, letter_cases, a_leaf, a_bud, an_open, a_close}
 use Rattle.pm_trees.proofs.Weights.{value, value_is, inner, inner_other, inner_of_bracket, own_bracket}
-use Rattle.pm_planting.specs.Kinds.{AreSidesOfKinds, IsWordOfKinds}
-use Rattle.pm_planting.specs.Kinds.AreSidesOfKinds.{none, leaf, node}
-use Rattle.pm_planting.specs.PlanePlanted.{filled}
+use Rattle.pm_planting.specs.Kinds.{AreSides, IsWordOfKinds}
+use Rattle.pm_planting.specs.Kinds.AreSides.{none, leaf, node}
+use Rattle.pm_planting.specs.Kinds.{filled}
 use Rattle.pm_planting.proofs.SideReading.{one_reading}
 use Rattle.pm_planting.proofs.FilledRows.{filled_bud, filled_slot}
 
@@ -32,7 +32,7 @@ record HasEntries (word : List ℕ) : Type 0 where
   sides : List (List ℕ)
   letters : All (λ x. (x ≡ BUD) ⊎ (x ≡ SLOT)) pattern
   as_many : length sides + tally BUD pattern ≡ length pattern
-  are_sides : AreSidesOfKinds kinds sides
+  are_sides : AreSides kinds sides
   few : All HasFewHalf kinds
   word_is : filled pattern sides ≡ word
   entries : length pattern ≡ length (own_letters 0 word)
@@ -77,7 +77,7 @@ bud_entry x word o bud h =
 
 -- a slot with the text of a tree
 slot_entry : (text word all : List ℕ) (front : List (ℕ × ℕ)) → HasEntries word → text ++ word ≡ all → All HasFewHalf front
-    → ((kinds : List (ℕ × ℕ)) (sides : List (List ℕ)) → AreSidesOfKinds kinds sides → AreSidesOfKinds (front ++ kinds) (text ∷ sides))
+    → ((kinds : List (ℕ × ℕ)) (sides : List (List ℕ)) → AreSides kinds sides → AreSides (front ++ kinds) (text ∷ sides))
     → length (own_letters 0 all) ≡ suc (length (own_letters 0 word)) → tally BUD (own_letters 0 all) ≡ tally BUD (own_letters 0 word) → HasEntries all
 slot_entry text word all front h same few side entries buds =
     let t = tally_no BUD SLOT h.pattern (λ e. omega (arith, e)) in
@@ -106,7 +106,7 @@ leaf_entry x word o here h =
 -- a node with its half degree and rank
 record IsNodeOf (word : List ℕ) (front : List (ℕ × ℕ)) : Type 0 where
   few : All HasFewHalf front
-  more : (kinds : List (ℕ × ℕ)) (sides : List (List ℕ)) → AreSidesOfKinds kinds sides → AreSidesOfKinds (front ++ kinds) ((OPEN ∷ word ++ CLOSE ∷ []) ∷ sides)
+  more : (kinds : List (ℕ × ℕ)) (sides : List (List ℕ)) → AreSides kinds sides → AreSides (front ++ kinds) ((OPEN ∷ word ++ CLOSE ∷ []) ∷ sides)
 
 node_of : (word : List ℕ) → HasEntries word → value bad 1 word ≡ 0 → (front : List (ℕ × ℕ)) × IsNodeOf word front
 node_of word h none_here =
@@ -126,7 +126,7 @@ node_of word h none_here =
       record {
         few = All-cons HasFewHalf (half, ranked.0) h.kinds (record { few = omega (arith, v, b, e, d, none_here) }) h.few;
         more = λ kinds sides k.
-            subst (λ (w : List ℕ). AreSidesOfKinds ((half, ranked.0) ∷ h.kinds ++ kinds) ((OPEN ∷ w ++ CLOSE ∷ []) ∷ sides)) h.word_is
+            subst (λ (w : List ℕ). AreSides ((half, ranked.0) ∷ h.kinds ++ kinds) ((OPEN ∷ w ++ CLOSE ∷ []) ∷ sides)) h.word_is
             (node half ranked.0 h.kinds kinds h.pattern h.sides sides some ranked.1 h.are_sides many k);
       },
     )

@@ -5,7 +5,7 @@ ghost use Rattle.pm_trees.specs.Binomial.{choose};
 ghost use Rattle.pm_trees.specs.BudPattern.{HasRank, IsHalfDegree};
 ghost use Rattle.pm_words.specs.Word.{IsGood};
 ghost use Rattle.pm_objects.specs.Objects.{letters_of};
-ghost use Rattle.pm_planting.specs.PlanePlanted.{IsPlantedPlane};
+ghost use Rattle.pm_planting.specs.Kinds.{IsPlantedPlane};
 
 use pm_limits::MAX_DEGREE;
 use pm_trees::{CLOSE, LEAF, OPEN, SLOT, Tree, pattern};

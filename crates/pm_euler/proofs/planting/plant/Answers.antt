@@ -6,7 +6,7 @@ use Rattle.pm_remy.proofs.Reading.{forks-shape}
 use Rattle.pm_words.specs.Word.{IsGood}
 use Rattle.pm_trees.specs.Binomial.{choose}
 use Rattle.pm_objects.specs.Objects.{letters_of}
-use Rattle.pm_planting.specs.PlanePlanted.{IsPlantedPlane}
+use Rattle.pm_planting.specs.Kinds.{IsPlantedPlane}
 use Rattle.pm_euler.specs.Planted.{shape_objects}
 use Rattle.pm_euler.proofs.QuarticTrees.{ranks_below, tree_good, tree_objects}
 use Rattle.pm_euler.proofs.planting.plant.Goals as goal
