@@ -8,7 +8,7 @@ use Rattle.pm_trees.specs.Replanted.{IsReplanted}
 use Rattle.pm_trees.specs.Replanting.{leaf_after}
 use Rattle.pm_trees.proofs.LeafTurns.{leaf_few}
 use Rattle.pm_trees.proofs.Replants.{each_leaf}
-use Rattle.pm_match.specs.Pair.{IsBalanced}
+use Rattle.pm_match.specs.Pair.{IsFree, IsBalanced}
 use Rattle.pm_map.specs.Rotation.{RotationSystem}
 use Rattle.pm_map.specs.Canonical.{IsCanonicalOf}
 use Rattle.pm_canon.proofs.ExistenceLemmas.{canonical_map_exists}
@@ -44,7 +44,7 @@ planted_anew word free tree few =
     record {
       turned = replanted.0;
       old_plant = leaf_after word leaf 0;
-      is = anew_from word free leaf found.0 replanted.0 tree found.1 numbered replanted.1;
+      is = anew_from IsFree word free leaf found.0 replanted.0 tree found.1 numbered replanted.1;
     }
 
 -- and a canonical map of its closure, since it is balanced

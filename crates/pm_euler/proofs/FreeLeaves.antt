@@ -18,7 +18,7 @@ use Rattle.pm_match.specs.Pairing.{Pairs, IsPairing}
 use Rattle.pm_match.proofs.Counts.{leaf_within as leaf_inside}
 use Rattle.pm_match.proofs.Paired.{pairing_exists}
 use Rattle.pm_match.proofs.PairTurns.{free_leaf_balances}
-use Rattle.pm_euler.specs.PlantedAnew.{IsFreeLeaf, IsPlantedAnew, first, second}
+use Rattle.pm_euler.specs.PlantedAnew.{IsChosen, IsFreeLeaf, IsPlantedAt, first, second}
 
 -- the two free leaves of a pairing, by their numbers
 pub first_is_free : (places : List ℕ) (found : Pairs) → IsPairing places found → IsFreeLeaf places 0 found.first_free
@@ -39,17 +39,17 @@ anew_balanced word free leaf place turned tree is numbered r =
     (free_leaf_balances word leaf turned tree r).1
     (subst (IsFree (contour word)) (one_leaf (contour word) leaf place r.start numbered r.is_start) (free_leaf_is_free (contour word) free place is))
 
--- and its old plant has the number that planting gives to leaf 0
-pub anew_from : (word : List ℕ) (free leaf place : ℕ) (turned : List ℕ) → IsBlossoming word → IsFreeLeaf (contour word) free place → IsLeafAt (contour word) leaf place
-    → IsReplanted word leaf turned → IsPlantedAnew word free turned (leaf_after word leaf 0)
-anew_from word free leaf place turned tree is numbered r =
+-- the old plant of a tree that is planted at a chosen leaf has the number that planting gives to leaf 0
+pub anew_from : (chosen : List ℕ → ℕ → Type 0) (word : List ℕ) (number leaf place : ℕ) (turned : List ℕ) → IsBlossoming word → IsChosen (chosen (contour word)) number place → IsLeafAt (contour word) leaf place
+    → IsReplanted word leaf turned → IsPlantedAt chosen word number turned (leaf_after word leaf 0)
+anew_from chosen word number leaf place turned tree is numbered r =
     let start_in : r.start < length (contour word) = leaf_within (contour word) leaf r.start r.is_start in
     let now_in : steps_to (length (contour word)) r.start 0 < length (contour word) = steps_under (length (contour word)) r.start 0 (omega arith) in
     let now_is : place_from (contour word) r.start (steps_to (length (contour word)) r.start 0) ≡ 0 = steps_lead (length (contour word)) r.start 0 (omega arith) (omega arith) in
     record {
       leaf = leaf;
       place = place;
-      is_free = is;
+      is_chosen = is;
       numbered = numbered;
       is_replanted = r;
       now = steps_to (length (contour word)) r.start 0;

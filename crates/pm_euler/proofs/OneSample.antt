@@ -18,7 +18,7 @@ use Rattle.pm_lehmer.specs.Lehmer.{code_of}
 use Rattle.pm_remy.specs.Tree.{labels_of}
 use Rattle.pm_remy.specs.Growth.{grown}
 use Rattle.pm_map.specs.Rotation.{RotationSystem}
-use Rattle.pm_euler.specs.PlantedAnew.{IsFreeLeaf, IsPlantedAnew, first, second}
+use Rattle.pm_euler.specs.PlantedAnew.{IsFreeLeaf, IsPlantedAnew, IsPlantedAt, first, second}
 use Rattle.pm_euler.specs.Closed.{IsCanonicalClosure}
 use Rattle.pm_euler.specs.Quartic.{IsQuarticSize, SamplesQuartic}
 use Rattle.pm_class.specs.Sampling.{HasOneSample}
@@ -45,18 +45,18 @@ one_free_leaf word _ _ p q tree e (second _ o p_free o_free before) (first _ q_f
 one_free_leaf word _ _ p q tree e (second _ o p_free o_free before) (second _ r q_free r_free after) = one_second word p q o r tree p_free q_free o_free r_free before after
 
 -- a tree that is planted anew is alike
-pub anew_alike : (word : List ℕ) (free : ℕ) (turned : List ℕ) (old : ℕ) → IsBlossoming word → IsPlantedAnew word free turned old → IsAlike word turned
+pub anew_alike : {chosen : List ℕ → ℕ → Type 0} (word : List ℕ) (free : ℕ) (turned : List ℕ) (old : ℕ) → IsBlossoming word → IsPlantedAt chosen word free turned old → IsAlike word turned
 anew_alike word free turned old tree a = replanted_alike word a.leaf turned tree a.is_replanted
 
-pub anew_blossoms : (word : List ℕ) (free : ℕ) (turned : List ℕ) (old : ℕ) → IsBlossoming word → IsPlantedAnew word free turned old → IsBlossoming turned
+pub anew_blossoms : {chosen : List ℕ → ℕ → Type 0} (word : List ℕ) (free : ℕ) (turned : List ℕ) (old : ℕ) → IsBlossoming word → IsPlantedAt chosen word free turned old → IsBlossoming turned
 anew_blossoms word free turned old tree a = (anew_alike word free turned old tree a).blossoming
 
 pub anew_balances : (word : List ℕ) (free : ℕ) (turned : List ℕ) (old : ℕ) → IsBlossoming word → IsPlantedAnew word free turned old → IsBalanced (contour turned)
-anew_balances word free turned old tree a = anew_balanced word free a.leaf a.place turned tree a.is_free a.numbered a.is_replanted
+anew_balances word free turned old tree a = anew_balanced word free a.leaf a.place turned tree a.is_chosen a.numbered a.is_replanted
 
 same_leaf : (word : List ℕ) (free : ℕ) (one other : List ℕ) (a b : ℕ) → IsBlossoming word → (x : IsPlantedAnew word free one a) → (y : IsPlantedAnew word free other b) → y.leaf ≡ x.leaf
 same_leaf word free one other a b tree x y =
-    let places : y.place ≡ x.place = one_free_leaf word free free y.place x.place tree refl y.is_free x.is_free in
+    let places : y.place ≡ x.place = one_free_leaf word free free y.place x.place tree refl y.is_chosen x.is_chosen in
     sym y.numbered.before ∙ ap (λ (k : ℕ). count LEAF (take k (contour word))) places ∙ x.numbered.before
 
 -- a tree is planted anew in one way

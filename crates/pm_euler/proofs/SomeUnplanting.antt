@@ -25,7 +25,7 @@ use Rattle.pm_open.specs.Opening.{IsOpening}
 use Rattle.pm_open.proofs.KeptByOpening.{kept_degrees, kept_edges}
 use Rattle.pm_open.proofs.SomeOpening.{each_map_opens}
 use Rattle.pm_euler.specs.Closed.{IsCanonicalClosure}
-use Rattle.pm_euler.specs.PlantedAnew.{IsFreeLeaf, IsPlantedAnew}
+use Rattle.pm_euler.specs.PlantedAnew.{IsChosen, IsFreeLeaf, IsPlantedAt}
 use Rattle.pm_euler.specs.Unplanted.{IsUnplanted}
 use Rattle.pm_euler.proofs.FreeLeaves.{first_is_free, second_is_free, anew_from}
 use Rattle.pm_euler.proofs.OneSample.{anew_alike}
@@ -44,13 +44,13 @@ has_number word place tree is =
       | inr e ↦ record { free = 1; few = omega arith; is_free = subst (IsFreeLeaf (contour word) 1) (sym e) (second_is_free (contour word) found.0 found.1) }
     ]
 
--- a tree replanted at one of its leaves, planted anew at a free leaf that is its plant from before, is as it was
-pub anew_back : (turned : List ℕ) (old : ℕ) (word : List ℕ) (free place : ℕ) → IsBlossoming turned → old < leaves turned → IsReplanted turned old word
-    → IsLeafAt (contour word) (leaf_after turned old 0) place → IsFreeLeaf (contour word) free place → IsPlantedAnew word free turned old
-anew_back turned old word free place tree few r numbered is =
+-- a tree replanted at one of its leaves, planted anew at a chosen leaf that is its plant from before, is as it was
+pub anew_back : (chosen : List ℕ → ℕ → Type 0) (turned : List ℕ) (old : ℕ) (word : List ℕ) (free place : ℕ) → IsBlossoming turned → old < leaves turned → IsReplanted turned old word
+    → IsLeafAt (contour word) (leaf_after turned old 0) place → IsChosen (chosen (contour word)) free place → IsPlantedAt chosen word free turned old
+anew_back chosen turned old word free place tree few r numbered is =
     let alike : IsAlike turned word = replanted_alike turned old word tree r in
-    subst (IsPlantedAnew word free turned) (leaf_back turned word old alike.leaves_are few)
-    (anew_from word free (leaf_after turned old 0) place turned alike.blossoming is numbered (replanting_undone turned old word tree r))
+    subst (IsPlantedAt chosen word free turned) (leaf_back turned word old alike.leaves_are few)
+    (anew_from chosen word free (leaf_after turned old 0) place turned alike.blossoming is numbered (replanting_undone turned old word tree r))
 
 -- where it was balanced, its plant from before is free
 pub plant_is_free : (turned : List ℕ) (old : ℕ) (word : List ℕ) (place : ℕ) → IsBlossoming turned → IsBalanced (contour turned) → IsReplanted turned old word
@@ -67,7 +67,7 @@ unplanted_from map turned old word free place is few r numbered is_free two = re
   blossoming = (replanted_alike turned old word is.blossoming r).blossoming;
   few = two;
   turned = turned;
-  is_anew = anew_back turned old word free place is.blossoming few r numbered is_free;
+  is_anew = anew_back IsFree turned old word free place is.blossoming few r numbered is_free;
   is_opening = is;
 }
 

@@ -1,6 +1,7 @@
 use Rattle.std.proofs.Common.{subst}
 use Rattle.pm_trees.specs.Word.{contour}
 use Rattle.pm_trees.proofs.LeafTurns.{leaf_few}
+use Rattle.pm_match.specs.Pair.{IsFree}
 use Rattle.pm_euler.specs.PlantedAnew.{IsPlantedAnew}
 use Rattle.pm_euler.proofs.FreeLeaves.{free_leaf_inside, free_leaf_numbered, anew_from, anew_balanced, old_number}
 use Rattle.pm_euler.proofs.anew.plant_anew.Goals as goal
@@ -18,7 +19,7 @@ returns-clause-anew c =
     let numbered = free_leaf_numbered (contour c.args.tree.now) c.args.free c.in_ok-place.place c.leaves_before-leaf.result c.in_ok-place.ensures c.leaves_before-leaf.ensures in
     let number = old_number c.args.tree.now c.leaves_before-leaf.result c.leaves.result c.leaves-2.result c.leaves.ensures c.leaves-2.ensures in
     subst (IsPlantedAnew c.args.tree.now c.args.free c.in_ok-replanted.replanted) number
-    (anew_from c.args.tree.now c.args.free c.leaves_before-leaf.result c.in_ok-place.place c.in_ok-replanted.replanted c.letters-letters.ensures.valid c.in_ok-place.ensures numbered c.in_ok-replanted.ensures.replanted)
+    (anew_from IsFree c.args.tree.now c.args.free c.leaves_before-leaf.result c.in_ok-place.place c.in_ok-replanted.replanted c.letters-letters.ensures.valid c.in_ok-place.ensures numbered c.in_ok-replanted.ensures.replanted)
 
 pub returns-clause-balanced : goal.returns-clause-balanced
 returns-clause-balanced c =
