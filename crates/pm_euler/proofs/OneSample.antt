@@ -18,7 +18,7 @@ use Rattle.pm_lehmer.specs.Lehmer.{code_of}
 use Rattle.pm_remy.specs.Tree.{labels_of}
 use Rattle.pm_remy.specs.Growth.{grown}
 use Rattle.pm_map.specs.Rotation.{RotationSystem}
-use Rattle.pm_euler.specs.PlantedAnew.{IsFreeLeaf, IsPlantedAnew, IsPlantedAt, first, second}
+use Rattle.pm_euler.specs.PlantedAnew.{IsChosen, IsPlantedAnew, IsPlantedAt, first, second}
 use Rattle.pm_euler.specs.Closed.{IsCanonicalClosure}
 use Rattle.pm_euler.specs.Quartic.{IsQuarticSize, SamplesQuartic}
 use Rattle.pm_class.specs.Sampling.{HasOneSample}
@@ -27,22 +27,28 @@ use Rattle.pm_euler.proofs.BoundLemmas.{length-quartic_choices, ranks_long}
 use Rattle.pm_euler.proofs.FreeLeaves.{anew_balanced}
 use Rattle.pm_euler.proofs.ClosedMaps.{one_canonical_closure}
 
--- the free leaf of a number is one
-one_second : (word : List ℕ) (p q o r : ℕ) → IsBlossoming word → IsFree (contour word) p → IsFree (contour word) q → IsFree (contour word) o → IsFree (contour word) r → o < p → r < q → p ≡ q
-one_second word p q o r tree p_free q_free o_free r_free before after = elim (cases_eq p q) [
+-- of three chosen places two are the same
+pub record AreAtMostTwo (chosen : ℕ → Type 0) : Type 0 where
+  pub no_third : (p q o : ℕ) → chosen p → chosen q → chosen o → (p ≡ q → ⊥) → (p ≡ o → ⊥) → q ≡ o
+
+free_two : (word : List ℕ) → IsBlossoming word → AreAtMostTwo (IsFree (contour word))
+free_two word tree = record { no_third = at_most_two_free word (two_more_leaves word tree) }
+
+-- the chosen place of a number is one
+one_second : (chosen : ℕ → Type 0) (p q o r : ℕ) → AreAtMostTwo chosen → chosen p → chosen q → chosen o → chosen r → o < p → r < q → p ≡ q
+one_second chosen p q o r two p_is q_is o_is r_is before after = elim (cases_eq p q) [
   | inl same ↦ same
   | inr apart ↦
-      let two = two_more_leaves word tree in
-      let q_is : q ≡ o = at_most_two_free word two p q o p_free q_free o_free apart (λ e. omega arith) in
-      let q_is_r : q ≡ r = at_most_two_free word two p q r p_free q_free r_free apart (λ e. omega arith) in
+      let q_is_o : q ≡ o = two.no_third p q o p_is q_is o_is apart (λ e. omega arith) in
+      let q_is_r : q ≡ r = two.no_third p q r p_is q_is r_is apart (λ e. omega arith) in
       absurd (omega arith)
 ]
 
-one_free_leaf : (word : List ℕ) (a b p q : ℕ) → IsBlossoming word → a ≡ b → IsFreeLeaf (contour word) a p → IsFreeLeaf (contour word) b q → p ≡ q
-one_free_leaf word _ _ p q tree e (first _ p_free p_least) (first _ q_free q_least) = let below = p_least q q_free in let above = q_least p p_free in omega arith
-one_free_leaf word _ _ p q tree e (first _ p_free p_least) (second _ r q_free r_free after) = absurd (omega arith)
-one_free_leaf word _ _ p q tree e (second _ o p_free o_free before) (first _ q_free q_least) = absurd (omega arith)
-one_free_leaf word _ _ p q tree e (second _ o p_free o_free before) (second _ r q_free r_free after) = one_second word p q o r tree p_free q_free o_free r_free before after
+one_chosen : (chosen : ℕ → Type 0) (a b p q : ℕ) → AreAtMostTwo chosen → a ≡ b → IsChosen chosen a p → IsChosen chosen b q → p ≡ q
+one_chosen chosen _ _ p q two e (first _ p_is p_least) (first _ q_is q_least) = let below = p_least q q_is in let above = q_least p p_is in omega arith
+one_chosen chosen _ _ p q two e (first _ p_is p_least) (second _ r q_is r_is after) = absurd (omega arith)
+one_chosen chosen _ _ p q two e (second _ o p_is o_is before) (first _ q_is q_least) = absurd (omega arith)
+one_chosen chosen _ _ p q two e (second _ o p_is o_is before) (second _ r q_is r_is after) = one_second chosen p q o r two p_is q_is o_is r_is before after
 
 -- a tree that is planted anew is alike
 pub anew_alike : {chosen : List ℕ → ℕ → Type 0} (word : List ℕ) (free : ℕ) (turned : List ℕ) (old : ℕ) → IsBlossoming word → IsPlantedAt chosen word free turned old → IsAlike word turned
@@ -54,15 +60,15 @@ anew_blossoms word free turned old tree a = (anew_alike word free turned old tre
 pub anew_balances : (word : List ℕ) (free : ℕ) (turned : List ℕ) (old : ℕ) → IsBlossoming word → IsPlantedAnew word free turned old → IsBalanced (contour turned)
 anew_balances word free turned old tree a = anew_balanced word free a.leaf a.place turned tree a.is_chosen a.numbered a.is_replanted
 
-same_leaf : (word : List ℕ) (free : ℕ) (one other : List ℕ) (a b : ℕ) → IsBlossoming word → (x : IsPlantedAnew word free one a) → (y : IsPlantedAnew word free other b) → y.leaf ≡ x.leaf
-same_leaf word free one other a b tree x y =
-    let places : y.place ≡ x.place = one_free_leaf word free free y.place x.place tree refl y.is_chosen x.is_chosen in
+same_leaf : (chosen : List ℕ → ℕ → Type 0) (word : List ℕ) (free : ℕ) (one other : List ℕ) (a b : ℕ) → AreAtMostTwo (chosen (contour word)) → (x : IsPlantedAt chosen word free one a) → (y : IsPlantedAt chosen word free other b) → y.leaf ≡ x.leaf
+same_leaf chosen word free one other a b two x y =
+    let places : y.place ≡ x.place = one_chosen (chosen (contour word)) free free y.place x.place two refl y.is_chosen x.is_chosen in
     sym y.numbered.before ∙ ap (λ (k : ℕ). count LEAF (take k (contour word))) places ∙ x.numbered.before
 
 -- a tree is planted anew in one way
-one_anew : (word : List ℕ) (free : ℕ) (one other : List ℕ) (a b : ℕ) → IsBlossoming word → IsPlantedAnew word free one a → IsPlantedAnew word free other b → (other ≡ one) × (b ≡ a)
-one_anew word free one other a b tree x y =
-    let leaves : y.leaf ≡ x.leaf = same_leaf word free one other a b tree x y in
+one_anew : (chosen : List ℕ → ℕ → Type 0) (word : List ℕ) (free : ℕ) (one other : List ℕ) (a b : ℕ) → IsBlossoming word → AreAtMostTwo (chosen (contour word)) → IsPlantedAt chosen word free one a → IsPlantedAt chosen word free other b → (other ≡ one) × (b ≡ a)
+one_anew chosen word free one other a b tree two x y =
+    let leaves : y.leaf ≡ x.leaf = same_leaf chosen word free one other a b two x y in
     let there : IsReplanted word x.leaf other = subst (λ (k : ℕ). IsReplanted word k other) leaves y.is_replanted in
     let words : other ≡ one = replanted_unique word x.leaf other one tree there x.is_replanted in
     let starts : y.is_replanted.start ≡ x.is_replanted.start =
@@ -71,7 +77,7 @@ one_anew word free one other a b tree x y =
     let y_now : y.now ≡ steps_to (length (contour word)) y.is_replanted.start 0 = now_is word free other b y in
     let nows : y.now ≡ x.now = y_now ∙ ap (λ (s : ℕ). steps_to (length (contour word)) s 0) starts ∙ sym x_now in
     (words, sym y.is_old_number.before ∙ ap (λ (k : ℕ). count LEAF (take k (contour other))) nows ∙ ap (λ (w : List ℕ). count LEAF (take x.now (contour w))) words ∙ x.is_old_number.before) where
-      now_is : (word : List ℕ) (free : ℕ) (turned : List ℕ) (old : ℕ) → (x : IsPlantedAnew word free turned old) → x.now ≡ steps_to (length (contour word)) x.is_replanted.start 0
+      now_is : (word : List ℕ) (free : ℕ) (turned : List ℕ) (old : ℕ) → (x : IsPlantedAt chosen word free turned old) → x.now ≡ steps_to (length (contour word)) x.is_replanted.start 0
       now_is word free turned old x =
           let long = x.is_replanted.is_turned.as_long in
           let within = x.within in
@@ -82,7 +88,7 @@ one_anew word free one other a b tree x y =
 pub closed_anew_once : (word same_word : List ℕ) (free : ℕ) (one other : List ℕ) (a b : ℕ) (map same_map : RotationSystem) → IsBlossoming word → same_word ≡ word
     → IsPlantedAnew word free one a → IsPlantedAnew same_word free other b → IsCanonicalClosure one map → IsCanonicalClosure other same_map → (map ≡ same_map) × (a ≡ b)
 closed_anew_once word same_word free one other a b map same_map tree words x y closed other_closed =
-    let same = one_anew word free one other a b tree x (subst (λ (w : List ℕ). IsPlantedAnew w free other b) words y) in (
+    let same = one_anew IsFree word free one other a b tree (free_two word tree) x (subst (λ (w : List ℕ). IsPlantedAnew w free other b) words y) in (
       one_canonical_closure one map same_map (anew_blossoms word free one a tree x) (anew_balances word free one a tree x) closed
           (subst (λ (w : List ℕ). IsCanonicalClosure w same_map) same.0 other_closed),
       sym same.1,
