@@ -10,7 +10,7 @@ use Rattle.pm_cli.specs.declared.class.Size.TheVariants as sizes
 use Rattle.pm_cli.specs.declared.command.Command.{Command}
 use Rattle.pm_cli.specs.declared.command.Command.TheVariants.{Reads, Makes}
 use Rattle.pm_cli.specs.declared.command.Reader.TheVariants.{CloseEulerian, OfMap, Check, Unsample, Sample}
-use Rattle.pm_cli.specs.declared.command.MapTask.TheVariants.{Print, CheckGeneral, OpenEulerian}
+use Rattle.pm_cli.specs.declared.command.MapTask.TheVariants.{Print, OpenEulerian}
 use Rattle.pm_cli.specs.declared.command.Image.{Image}
 use Rattle.pm_cli.specs.declared.command.Image.TheVariants.{Canon}
 use Rattle.pm_cli.specs.declared.command.Maker.TheVariants.{Draw}
@@ -21,7 +21,7 @@ use Rattle.pm_cli.specs.Commands.{verb_word, class_word, size_word, AreDrawNumbe
 use Rattle.pm_cli.specs.steps.Words.{StopsAt, AreBehind, IsBehind}
 use Rattle.pm_cli.proofs.PairTexts.{one_profile}
 use Rattle.pm_cli.proofs.StoppingWords.{first_words, later_words}
-use Rattle.pm_cli.proofs.WordTables.{one_verb, one_class, no_general_class}
+use Rattle.pm_cli.proofs.WordTables.{one_verb, one_class}
 
 -- equal fronts have equal shorter fronts
 front : (k j : ℕ) (xs ys : List (List ℕ)) → k ≤ j → take j xs ≡ take j ys → take k xs ≡ take k ys
@@ -36,9 +36,8 @@ front k j xs ys le e = sym (shorter k j xs le) ∙ ap (take k) e ∙ shorter k j
 stands_behind : (command : Command) → IsCommand command → AreBehind (verb_of command) (behind command)
 stands_behind (Reads CloseEulerian) is = record { word = codes "eulerian"; is = refl; alone = refl }
 stands_behind (Reads (OfMap (Print image))) is = refl
-stands_behind (Reads (OfMap CheckGeneral)) is = record { word = codes "general"; is = inl refl; alone = refl }
 stands_behind (Reads (OfMap OpenEulerian)) is = record { word = codes "eulerian"; is = refl; alone = refl }
-stands_behind (Reads (Check class)) is = record { word = class_word class; is = inr (class, refl); alone = refl }
+stands_behind (Reads (Check class)) is = record { word = class_word class; is = (class, refl); alone = refl }
 stands_behind (Reads (Unsample class)) is = record { word = class_word class; is = (class, refl); alone = refl }
 stands_behind (Reads (Sample size)) is = record { size = size; admissible = is; are = refl }
 stands_behind (Makes (Draw seed count) size) is =
@@ -49,10 +48,8 @@ some_command : (v : Verb) (words : List (List ℕ)) → AreBehind v words → (c
 some_command verb.Close words is = (Reads CloseEulerian, record { is_command = tt; is_verb = refl; same = is.alone ∙ ap (λ (w : List ℕ). w ∷ []) is.is })
 some_command verb.Open words is = (Reads (OfMap OpenEulerian), record { is_command = tt; is_verb = refl; same = is.alone ∙ ap (λ (w : List ℕ). w ∷ []) is.is })
 some_command (verb.Print image) words is = (Reads (OfMap (Print image)), record { is_command = tt; is_verb = refl; same = is })
-some_command verb.Check words is = elim is.is [
-  | inl general ↦ (Reads (OfMap CheckGeneral), record { is_command = tt; is_verb = refl; same = is.alone ∙ ap (λ (w : List ℕ). w ∷ []) general })
-  | inr class ↦ (Reads (Check class.0), record { is_command = tt; is_verb = refl; same = is.alone ∙ ap (λ (w : List ℕ). w ∷ []) class.1 })
-]
+some_command verb.Check words is =
+    let class = is.is in (Reads (Check class.0), record { is_command = tt; is_verb = refl; same = is.alone ∙ ap (λ (w : List ℕ). w ∷ []) class.1 })
 some_command verb.Unsample words is =
     let class = is.is in (Reads (Unsample class.0), record { is_command = tt; is_verb = refl; same = is.alone ∙ ap (λ (w : List ℕ). w ∷ []) class.1 })
 some_command verb.Sample words is = (Reads (Sample is.size), record { is_command = is.admissible; is_verb = refl; same = is.are })
@@ -102,16 +99,22 @@ spells_behind words v rest command e is =
 
 -- sizes of a class
 data IsOfClass : Class → Size → Type 0 where
+  general : (size : ℕ) → IsOfClass class.General (sizes.General size)
   quartic : (size : ℕ) → IsOfClass class.Quartic (sizes.Quartic size)
   eulerian : (profile : List (ℕ × ℕ)) → IsOfClass class.Eulerian (sizes.Eulerian profile)
+  bipartite : (profile : List (ℕ × ℕ)) → IsOfClass class.Bipartite (sizes.Bipartite profile)
 
 is_of_class : (size : Size) → IsOfClass (class_of size) size
+is_of_class (sizes.General size) = general size
 is_of_class (sizes.Quartic size) = quartic size
 is_of_class (sizes.Eulerian profile) = eulerian profile
+is_of_class (sizes.Bipartite profile) = bipartite profile
 
 one_size_of : (c : Class) (s t : Size) → IsOfClass c s → IsOfClass c t → IsSize s → IsSize t → size_word s ≡ size_word t → s ≡ t
+one_size_of _ _ _ (general a) (general b) x y e = let p = x.few in let q = y.few in ap sizes.General (decimal_injective a b (omega arith) (omega arith) e)
 one_size_of _ _ _ (quartic a) (quartic b) x y e = let p = x.few in let q = y.few in ap sizes.Quartic (decimal_injective a b (omega arith) (omega arith) e)
 one_size_of _ _ _ (eulerian a) (eulerian b) x y e = ap sizes.Eulerian (one_profile a b x y e)
+one_size_of _ _ _ (bipartite a) (bipartite b) x y e = ap sizes.Bipartite (one_profile a b x y e)
 
 -- a class and a size of it have their own words
 one_size : (s t : Size) → IsSize s → IsSize t → class_word (class_of s) ≡ class_word (class_of t) → size_word s ≡ size_word t → s ≡ t
@@ -123,7 +126,6 @@ data IsOfVerb : Verb → Command → Type 0 where
   closes : IsOfVerb verb.Close (Reads CloseEulerian)
   opens : IsOfVerb verb.Open (Reads (OfMap OpenEulerian))
   prints : (image : Image) → IsOfVerb (verb.Print image) (Reads (OfMap (Print image)))
-  counts : IsOfVerb verb.Check (Reads (OfMap CheckGeneral))
   checks : (class : Class) → IsOfVerb verb.Check (Reads (Check class))
   unsamples : (class : Class) → IsOfVerb verb.Unsample (Reads (Unsample class))
   samples : (size : Size) → IsOfVerb verb.Sample (Reads (Sample size))
@@ -132,7 +134,6 @@ data IsOfVerb : Verb → Command → Type 0 where
 is_of_verb : (command : Command) → IsOfVerb (verb_of command) command
 is_of_verb (Reads CloseEulerian) = closes
 is_of_verb (Reads (OfMap (Print image))) = prints image
-is_of_verb (Reads (OfMap CheckGeneral)) = counts
 is_of_verb (Reads (OfMap OpenEulerian)) = opens
 is_of_verb (Reads (Check class)) = checks class
 is_of_verb (Reads (Unsample class)) = unsamples class
@@ -149,9 +150,6 @@ one_of_verb : (v : Verb) (a b : Command) → IsOfVerb v a → IsOfVerb v b → I
 one_of_verb _ _ _ closes closes x y e = refl
 one_of_verb _ _ _ opens opens x y e = refl
 one_of_verb _ _ _ (prints image) (prints _) x y e = refl
-one_of_verb _ _ _ counts counts x y e = refl
-one_of_verb _ _ _ counts (checks class) x y e = absurd (no_general_class class (first_words e))
-one_of_verb _ _ _ (checks class) counts x y e = absurd (no_general_class class (sym (first_words e)))
 one_of_verb _ _ _ (checks a) (checks b) x y e = ap (λ (class : Class). Reads (Check class)) (one_class a b (first_words e))
 one_of_verb _ _ _ (unsamples a) (unsamples b) x y e = ap (λ (class : Class). Reads (Unsample class)) (one_class a b (first_words e))
 one_of_verb _ _ _ (samples a) (samples b) x y e = ap (λ (size : Size). Reads (Sample size)) (one_size a b x y (first_words e) (first_words (later_words e)))

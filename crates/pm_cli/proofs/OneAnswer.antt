@@ -14,7 +14,7 @@ use Rattle.pm_cli.specs.declared.command.Reader.TheVariants.{CloseEulerian, OfMa
 use Rattle.pm_cli.specs.declared.refusal.Refusal.{Refusal}
 use Rattle.pm_cli.specs.declared.refusal.Refusal.TheVariants.{Usage}
 use Rattle.pm_cli.specs.Answer.{checking, AnswersReader, AnswersSize, no_command, too_long, of_file, of_size}
-use Rattle.pm_cli.specs.Classes.{quartic_sampler, eulerian_sampler, AtSize, sized, IsSize, InClass, class_at}
+use Rattle.pm_cli.specs.Classes.{Sampler, general_sampler, quartic_sampler, eulerian_sampler, bipartite_sampler, sampler_of, AtSize, at_size, sized, IsSize, InClass, class_at}
 use Rattle.pm_cli.specs.Commands.{IsReader}
 use Rattle.pm_cli.specs.Laws.{HasOneAnswer}
 use Rattle.pm_cli.specs.MapAnswers.{task_relation}
@@ -34,6 +34,9 @@ record HasSizeLaws (at : AtSize) : Type 0 where
   one_sample : HasOneSample at.samples
   valid : (choices : List ℕ) (m : RotationSystem) (r : List ℕ) → at.samples choices m r → IsValidList choices at.choice_limits
 
+size_laws : (S : Sampler) → IsSampler S → (size : S.Measure) → S.is_size size → HasSizeLaws (at_size S size)
+size_laws S laws size is = let one = laws.one_to_one size is in record { one_sample = one.one_sample; valid = λ c m r h. let only = one.only c m r h in only.valid }
+
 pub same_reader : {r s : Reader} → Reads r ≡ Reads s → r ≡ s
 same_reader e = cc
 
@@ -41,23 +44,20 @@ pub reads_or_makes : {r : Reader} {t : Maker} {s : Size} → Reads r ≡ Makes t
 reads_or_makes e = cc
 
 module _ (laws : AreSamplers) where
-  quartic_laws : IsSampler quartic_sampler
-  quartic_laws = laws.quartic
-
-  eulerian_laws : IsSampler eulerian_sampler
-  eulerian_laws = laws.eulerian
-
   sized_laws : (size : Size) → IsSize size → HasSizeLaws (sized size)
-  sized_laws (sizes.Quartic size) is = let one = quartic_laws.one_to_one size is in record { one_sample = one.one_sample; valid = λ c m r h. let only = one.only c m r h in only.valid }
-  sized_laws (sizes.Eulerian profile) is = let one = eulerian_laws.one_to_one profile is in record { one_sample = one.one_sample; valid = λ c m r h. let only = one.only c m r h in only.valid }
+  sized_laws (sizes.General size) is = size_laws general_sampler (laws class.General) size is
+  sized_laws (sizes.Quartic size) is = size_laws quartic_sampler (laws class.Quartic) size is
+  sized_laws (sizes.Eulerian profile) is = size_laws eulerian_sampler (laws class.Eulerian) profile is
+  sized_laws (sizes.Bipartite profile) is = size_laws bipartite_sampler (laws class.Bipartite) profile is
 
   one_count : (c : Class) → HasOneSize (let at : InClass = class_at c in at.counts)
-  one_count class.Quartic = one_counting quartic_sampler.answers quartic_laws.one_answer
-  one_count class.Eulerian = one_counting eulerian_sampler.answers eulerian_laws.one_answer
+  one_count c =
+      let S : Sampler = sampler_of c in
+      let is : IsSampler S = laws c in
+      one_counting S.answers is.one_answer
 
   one_pair : (c : Class) → HasOneUnsampling (let at : InClass = class_at c in at.unsamples)
-  one_pair class.Quartic = one_unsampling quartic_sampler quartic_laws
-  one_pair class.Eulerian = one_unsampling eulerian_sampler eulerian_laws
+  one_pair c = one_unsampling (sampler_of c) (laws c)
 
   -- a command has one answer to a file
   reads_once : (reader : Reader) → IsReader reader → (bytes : List ℕ) (a b : Result (List ℕ) Refusal) → AnswersReader reader bytes a → AnswersReader reader bytes b → a ≡ b

@@ -27,11 +27,11 @@ use Rattle.pm_class.specs.Sampling.{HasOneAnswer}
 use Rattle.pm_open.proofs.KeptByOpening.{opened_degrees, opened_dart}
 use Rattle.pm_open.proofs.UniqueOpening.{one_opening}
 use Rattle.pm_cli.specs.declared.command.MapTask.{MapTask}
-use Rattle.pm_cli.specs.declared.command.MapTask.TheVariants.{Print, CheckGeneral, OpenEulerian}
+use Rattle.pm_cli.specs.declared.command.MapTask.TheVariants.{Print, OpenEulerian}
 use Rattle.pm_cli.specs.declared.command.Image.{Image}
 use Rattle.pm_cli.specs.declared.command.Image.TheVariants.{Canon, Medial, Unmedial, Dual}
 use Rattle.pm_cli.specs.declared.refusal.Refusal.{Refusal}
-use Rattle.pm_cli.specs.MapAnswers.{HasMap, MakesNoMap, rule_of_lines, rule_of_class, RefusesFile, broken, makes_none, RefusesMapFile, MapRelation, AnswersMap, told, no_map, breaks, Tells, HasCanonicalText, HasTextOf, PrintsMedial, has_medial, no_medial, PrintsUnmedial, has_unmedial, no_unmedial, not_quartic, IsCountsText, CountsIn, HasOpenText, Opens, opened, no_dart, other_degree, image_relation, task_relation}
+use Rattle.pm_cli.specs.MapAnswers.{HasMap, MakesNoMap, rule_of_lines, rule_of_class, RefusesFile, broken, makes_none, RefusesMapFile, MapRelation, AnswersMap, told, no_map, breaks, Tells, HasCanonicalText, HasTextOf, PrintsMedial, has_medial, no_medial, PrintsUnmedial, has_unmedial, no_unmedial, not_quartic, CountsIn, HasOpenText, Opens, opened, no_dart, other_degree, image_relation, task_relation}
 use Rattle.pm_cli.specs.TreeFile.{IsTreeLine}
 use Rattle.pm_cli.specs.steps.MapReading.{rule_of_file}
 use Rattle.pm_cli.proofs.OneText.{one_text}
@@ -226,5 +226,4 @@ one_printing Dual = one_telling (HasTextOf IsDualOf) one_dual_text
 -- each task has one answer to each map
 pub one_task : (task : MapTask) → HasOneAnswer (let relation : MapRelation = task_relation task in relation.answers)
 one_task (Print image) = one_printing image
-one_task CheckGeneral = one_telling IsCountsText (λ m a b rooted x y. x ∙ sym y)
 one_task OpenEulerian = one_opens

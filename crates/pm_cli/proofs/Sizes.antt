@@ -1,29 +1,18 @@
--- The words that spell the size of a class.
-use Rattle.std.proofs.Common.{◌≡◌, ℕ, ◌<◌, ◌^◌, List, sym, ◌∙◌, arith}
+-- The words that spell numbers.
+use Rattle.std.proofs.Common.{◌≡◌, ℕ, ◌<◌, ◌^◌, List, sym, ◌∙◌}
 use Rattle.std.specs.Prelude.{decimal}
 use Rattle.std.proofs.lemmas.Fmt.{decimal_injective}
 use Rattle.pm_text.specs.Numeral.{IsNumber}
 use Rattle.pm_text.proofs.NumeralLemmas.{has_one_spelling}
-use Rattle.pm_euler.specs.Quartic.{IsQuarticSize}
 
--- a size has 64 bits
-size_fits : (size : ℕ) → IsQuarticSize size → size < 2 ^ 64
-size_fits size is = let few = is.few in omega arith
-
--- a word that spells no number spells no size
-pub spells_no_size : (word : List ℕ) → ((value : ℕ) → IsNumber word value → ⊥) → (size : ℕ) → IsQuarticSize size → word ≡ decimal size → ⊥
-spells_no_size word none size is e = none size ((has_one_spelling word size).1 (size_fits size is, e))
-
--- the number that a word spells is the size that it spells
-pub spelled_size : (word : List ℕ) (value size : ℕ) → IsNumber word value → IsQuarticSize size → word ≡ decimal size → value ≡ size
-spelled_size word value size number is e =
-    let spelled = (has_one_spelling word value).0 number in
-    decimal_injective value size spelled.0 (size_fits size is) (sym spelled.1 ∙ e)
+-- a word spells one number
+pub one_number : (word : List ℕ) (a b : ℕ) → a < 2 ^ 64 → b < 2 ^ 64 → word ≡ decimal a → word ≡ decimal b → a ≡ b
+one_number word a b small few x y = decimal_injective a b small few (sym x ∙ y)
 
 pub spelled : (word : List ℕ) (value : ℕ) → IsNumber word value → word ≡ decimal value
 spelled word value number = ((has_one_spelling word value).0 number).1
 
--- the same of any number of 64 bits
+-- a word that spells no number spells none of 64 bits
 pub spells_no_number : (word : List ℕ) → ((value : ℕ) → IsNumber word value → ⊥) → (n : ℕ) → n < 2 ^ 64 → word ≡ decimal n → ⊥
 spells_no_number word none n fits e = none n ((has_one_spelling word n).1 (fits, e))
 

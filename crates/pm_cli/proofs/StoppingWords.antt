@@ -92,8 +92,10 @@ record HasSize (class : Class) : Type 0 where
   admissible : IsSize size
 
 some_size : (class : Class) → HasSize class
+some_size class.General = record { size = sizes.General 1; is_of = refl; admissible = record { few = omega arith } }
 some_size class.Quartic = record { size = sizes.Quartic 1; is_of = refl; admissible = record { some = omega arith; few = omega arith } }
 some_size class.Eulerian = record { size = sizes.Eulerian ((2, 1) ∷ []); is_of = refl; admissible = one_is_a_profile }
+some_size class.Bipartite = record { size = sizes.Bipartite ((2, 1) ∷ []); is_of = refl; admissible = one_is_a_profile }
 
 size_set : (size : Size) → IsSize size → AreSizeWords (size_words size [])
 size_set size is = record { size = size; admissible = is; are = refl }

@@ -43,18 +43,13 @@ pub one_verb : (a b : Verb) → verb_word a ≡ verb_word b → a ≡ b
 one_verb = one_value verbs verb_word verb_found
 
 abbrev classes : List (List ℕ × Class)
-classes = (codes "quartic", class.Quartic) ∷ (codes "eulerian", class.Eulerian) ∷ []
+classes = (codes "general", class.General) ∷ (codes "quartic", class.Quartic) ∷ (codes "eulerian", class.Eulerian) ∷ (codes "bipartite", class.Bipartite) ∷ []
 
 class_found : (c : Class) → looked_up classes (class_word c) ≡ Some c
+class_found class.General = refl
 class_found class.Quartic = refl
 class_found class.Eulerian = refl
+class_found class.Bipartite = refl
 
 pub one_class : (a b : Class) → class_word a ≡ class_word b → a ≡ b
 one_class = one_value classes class_word class_found
-
-none_some : {X : Type 0} {x : X} → None ≡ Some x → ⊥
-none_some e = cc
-
--- no class is called so
-pub no_general_class : (c : Class) → codes "general" ≡ class_word c → ⊥
-no_general_class c e = none_some (ap (looked_up classes) e ∙ class_found c)

@@ -1,16 +1,18 @@
 -- The classes of maps, as bundles of what each says of sizes, maps and lists.
-use Rattle.std.specs.Prelude.{ℕ, List, Result}
+use Rattle.std.specs.Prelude.{ℕ, ◌/◌, List, Result}
 use Rattle.pm_limits.specs.declared.TheConstants.{MAX_EDGES}
 use Rattle.pm_trees.specs.Pairs.{IsProfile}
 use Rattle.pm_map.specs.declared.class_refusal.ClassRefusal.{ClassRefusal}
 use Rattle.pm_map.specs.ClassRules.{IsQuarticAnswer}
-use Rattle.pm_map.specs.Classes.{IsQuartic, IsEulerian}
+use Rattle.pm_map.specs.Classes.{IsQuartic, IsEulerian, IsGeneral, IsBipartite}
 use Rattle.pm_map.specs.Rotation.{RotationSystem, structure_of}
 use Rattle.pm_class.specs.declared.sample.UnsampleRefusal.{UnsampleRefusal}
 use Rattle.pm_class.specs.Unsampling.{IsUnsampling}
 use Rattle.pm_euler.specs.Bounds.{quartic_choices, quartic_residues, eulerian_choices, eulerian_residues}
 use Rattle.pm_euler.specs.Eulerian.{IsEulerianAnswer, SamplesEulerian}
 use Rattle.pm_euler.specs.Quartic.{IsQuarticSize, SamplesQuartic}
+use Rattle.pm_general.specs.Bipartite.{IsBipartiteAnswer, SamplesBipartite}
+use Rattle.pm_general.specs.General.{IsGeneralAnswer, IsGeneralSize, SamplesGeneral}
 use Rattle.pm_cli.specs.declared.class.Class.{Class}
 use Rattle.pm_cli.specs.declared.class.Class.TheVariants as class
 use Rattle.pm_cli.specs.declared.class.Size.{Size}
@@ -53,6 +55,36 @@ eulerian_sampler = record {
   samples = SamplesEulerian;
 }
 
+abbrev pub general_sampler : Sampler
+general_sampler = record {
+  Measure = ℕ;
+  most_edges = MAX_EDGES / 2;
+  is_size = IsGeneralSize;
+  choice_limits = quartic_choices;
+  residue_limits = quartic_residues;
+  has = λ n m. IsGeneral (structure_of m) n;
+  answers = IsGeneralAnswer;
+  samples = SamplesGeneral;
+}
+
+abbrev pub bipartite_sampler : Sampler
+bipartite_sampler = record {
+  Measure = List (ℕ × ℕ);
+  most_edges = MAX_EDGES;
+  is_size = IsProfile;
+  choice_limits = eulerian_choices;
+  residue_limits = eulerian_residues;
+  has = λ pairs m. IsBipartite (structure_of m) pairs;
+  answers = IsBipartiteAnswer;
+  samples = SamplesBipartite;
+}
+
+abbrev pub sampler_of : Class → Sampler
+sampler_of class.General = general_sampler
+sampler_of class.Quartic = quartic_sampler
+sampler_of class.Eulerian = eulerian_sampler
+sampler_of class.Bipartite = bipartite_sampler
+
 -- a class at one size
 pub record AtSize : Type 1 where
   pub is_size : Type 0
@@ -63,16 +95,20 @@ abbrev pub at_size : (S : Sampler) → S.Measure → AtSize
 at_size S size = record { is_size = S.is_size size; choice_limits = S.choice_limits size; samples = S.samples size }
 
 abbrev pub sized : Size → AtSize
+sized (sizes.General size) = at_size general_sampler size
 sized (sizes.Quartic size) = at_size quartic_sampler size
 sized (sizes.Eulerian profile) = at_size eulerian_sampler profile
+sized (sizes.Bipartite profile) = at_size bipartite_sampler profile
 
 -- the class has maps of the size
 abbrev pub IsSize : Size → Type 0
 IsSize size = (sized size).is_size
 
 abbrev pub class_of : Size → Class
+class_of (sizes.General size) = class.General
 class_of (sizes.Quartic size) = class.Quartic
 class_of (sizes.Eulerian profile) = class.Eulerian
+class_of (sizes.Bipartite profile) = class.Bipartite
 
 -- a class at its maps: the most edges, what a map is told in place of its size, and what is unsampled of a map and a residue
 pub record InClass : Type 1 where
@@ -84,5 +120,4 @@ abbrev pub in_class : Sampler → InClass
 in_class S = record { most_edges = S.most_edges; counts = CountsIn S.answers; unsamples = IsUnsampling S.choice_limits S.residue_limits S.samples S.answers }
 
 abbrev pub class_at : Class → InClass
-class_at class.Quartic = in_class quartic_sampler
-class_at class.Eulerian = in_class eulerian_sampler
+class_at class = in_class (sampler_of class)

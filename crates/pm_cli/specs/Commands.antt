@@ -8,7 +8,7 @@ use Rattle.pm_cli.specs.declared.command.Command.{Command}
 use Rattle.pm_cli.specs.declared.command.Command.TheVariants.{Reads, Makes}
 use Rattle.pm_cli.specs.declared.command.Reader.{Reader}
 use Rattle.pm_cli.specs.declared.command.Reader.TheVariants.{CloseEulerian, OfMap, Check, Unsample, Sample}
-use Rattle.pm_cli.specs.declared.command.MapTask.TheVariants.{Print, CheckGeneral, OpenEulerian}
+use Rattle.pm_cli.specs.declared.command.MapTask.TheVariants.{Print, OpenEulerian}
 use Rattle.pm_cli.specs.declared.command.Image.TheVariants.{Canon, Medial, Unmedial, Dual}
 use Rattle.pm_cli.specs.declared.command.Maker.{Maker}
 use Rattle.pm_cli.specs.declared.command.Maker.TheVariants.{Draw}
@@ -31,12 +31,16 @@ verb_word verb.Unsample = codes "unsample"
 verb_word verb.Draw = codes "draw"
 
 abbrev pub class_word : Class → List ℕ
+class_word class.General = codes "general"
 class_word class.Quartic = codes "quartic"
 class_word class.Eulerian = codes "eulerian"
+class_word class.Bipartite = codes "bipartite"
 
 abbrev pub size_word : Size → List ℕ
+size_word (sizes.General size) = decimal size
 size_word (sizes.Quartic size) = decimal size
 size_word (sizes.Eulerian profile) = profile_text profile
+size_word (sizes.Bipartite profile) = profile_text profile
 
 -- a class and a size of it, and then other words
 abbrev pub size_words : Size → List (List ℕ) → List (List ℕ)
@@ -50,7 +54,6 @@ number_words seed count = decimal seed ∷ decimal count ∷ []
 abbrev pub verb_of : Command → Verb
 verb_of (Reads CloseEulerian) = verb.Close
 verb_of (Reads (OfMap (Print image))) = verb.Print image
-verb_of (Reads (OfMap CheckGeneral)) = verb.Check
 verb_of (Reads (OfMap OpenEulerian)) = verb.Open
 verb_of (Reads (Check class)) = verb.Check
 verb_of (Reads (Unsample class)) = verb.Unsample
@@ -60,7 +63,6 @@ verb_of (Makes (Draw seed count) size) = verb.Draw
 abbrev pub behind : Command → List (List ℕ)
 behind (Reads CloseEulerian) = codes "eulerian" ∷ []
 behind (Reads (OfMap (Print image))) = []
-behind (Reads (OfMap CheckGeneral)) = codes "general" ∷ []
 behind (Reads (OfMap OpenEulerian)) = codes "eulerian" ∷ []
 behind (Reads (Check class)) = class_word class ∷ []
 behind (Reads (Unsample class)) = class_word class ∷ []

@@ -18,7 +18,7 @@ use Rattle.pm_mapfile.specs.MapFile.{IsMapFile}
 use Rattle.pm_mapfile.specs.MapText.{IsMapText}
 use Rattle.pm_open.specs.Opening.{IsOpening}
 use Rattle.pm_cli.specs.declared.command.MapTask.{MapTask}
-use Rattle.pm_cli.specs.declared.command.MapTask.TheVariants.{Print, CheckGeneral, OpenEulerian}
+use Rattle.pm_cli.specs.declared.command.MapTask.TheVariants.{Print, OpenEulerian}
 use Rattle.pm_cli.specs.declared.command.Image.{Image}
 use Rattle.pm_cli.specs.declared.command.Image.TheVariants.{Canon, Medial, Unmedial, Dual}
 use Rattle.pm_cli.specs.declared.refusal.Limit.TheVariants.{Edges}
@@ -136,8 +136,7 @@ image_relation Medial = record { limit = MAX_EDGES / 2; answers = PrintsMedial }
 image_relation Unmedial = record { limit = MAX_EDGES; answers = PrintsUnmedial }
 image_relation Dual = record { limit = MAX_EDGES; answers = Tells (HasTextOf IsDualOf) }
 
--- what is answered to any map; the greatest general map has half as many edges as the greatest of all
+-- what is answered to any map
 abbrev pub task_relation : MapTask → MapRelation
 task_relation (Print image) = image_relation image
-task_relation CheckGeneral = record { limit = MAX_EDGES / 2; answers = Tells IsCountsText }
 task_relation OpenEulerian = record { limit = MAX_EDGES; answers = Opens }

@@ -4,7 +4,7 @@ ghost use Rattle.pm_cli.specs.Answer.{AnswersReader};
 ghost use Rattle.pm_cli.specs.Commands.{IsReader};
 ghost use Rattle.pm_cli.specs.steps.Answering.{IsAnswerBy};
 
-use crate::check::{check_class, check_general};
+use crate::check::check_class;
 use crate::class::{Class, Size};
 use crate::close::close_eulerian;
 use crate::command::{MapTask, Reader};
@@ -15,6 +15,7 @@ use crate::sample::sample;
 use crate::unsample::unsample;
 use pm_class::MapClass;
 use pm_euler::{Eulerian, Quartic};
+use pm_general::{Bipartite, General};
 use std::alloc::Global;
 
 // What a command that reads answers to a file.
@@ -26,21 +27,34 @@ pub(crate) fn answer(alloc: Global, reader: &Reader, bytes: &[u8]) -> Result<Vec
     match reader {
         Reader::CloseEulerian => close_eulerian(alloc, bytes),
         Reader::OfMap(MapTask::Print(image)) => print(alloc, *image, bytes),
-        Reader::OfMap(MapTask::CheckGeneral) => check_general(alloc, bytes),
         Reader::OfMap(MapTask::OpenEulerian) => open_eulerian(alloc, bytes),
+        Reader::Check(Class::General) => check_class::<General>(alloc, bytes, General::MOST_EDGES),
         Reader::Check(Class::Quartic) => check_class::<Quartic>(alloc, bytes, Quartic::MOST_EDGES),
         Reader::Check(Class::Eulerian) => check_class::<Eulerian>(
             alloc,
             bytes,
             Eulerian::MOST_EDGES,
         ),
+        Reader::Check(Class::Bipartite) => check_class::<Bipartite>(
+            alloc,
+            bytes,
+            Bipartite::MOST_EDGES,
+        ),
+        Reader::Unsample(Class::General) => unsample::<General>(alloc, bytes, General::MOST_EDGES),
         Reader::Unsample(Class::Quartic) => unsample::<Quartic>(alloc, bytes, Quartic::MOST_EDGES),
         Reader::Unsample(Class::Eulerian) => unsample::<Eulerian>(
             alloc,
             bytes,
             Eulerian::MOST_EDGES,
         ),
+        Reader::Unsample(Class::Bipartite) => unsample::<Bipartite>(
+            alloc,
+            bytes,
+            Bipartite::MOST_EDGES,
+        ),
+        Reader::Sample(Size::General(size)) => sample::<General>(alloc, size, bytes),
         Reader::Sample(Size::Quartic(size)) => sample::<Quartic>(alloc, size, bytes),
         Reader::Sample(Size::Eulerian(profile)) => sample::<Eulerian>(alloc, profile, bytes),
+        Reader::Sample(Size::Bipartite(profile)) => sample::<Bipartite>(alloc, profile, bytes),
     }
 }

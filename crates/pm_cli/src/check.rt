@@ -1,14 +1,12 @@
 ghost use Rattle.std.specs.Prelude.{◌≤◌, length, IfOk};
 ghost use Rattle.pm_io.specs.declared.TheConstants.{MAX_BYTES as limit};
 ghost use Rattle.pm_limits.specs.declared.TheConstants.{MAX_EDGES};
-ghost use Rattle.pm_cli.specs.declared.command.MapTask.TheVariants.{CheckGeneral};
-ghost use Rattle.pm_cli.specs.MapAnswers.{AnswersMap, CountsIn, IsCountsText, task_relation};
+ghost use Rattle.pm_cli.specs.MapAnswers.{AnswersMap, CountsIn, IsCountsText};
 ghost use Rattle.pm_cli.specs.steps.Answering.{IsAnswerBy};
 
 use crate::map_file::map_of_file;
 use crate::refusal::Stop;
 use pm_class::MapClass;
-use pm_limits::MAX_EDGES;
 use pm_map::RootedMap;
 use pm_text::put_number;
 use std::alloc::{AllocError, Global};
@@ -30,16 +28,7 @@ fn counts_text(alloc: Global, map: &RootedMap) -> Result<Vec<u8>, AllocError>
     Ok(text)
 }
 
-// `check general`: how many vertices, edges and faces the map in the file has.
-pub(crate) fn check_general(alloc: Global, bytes: &[u8]) -> Result<Vec<u8>, Stop>
-    requires { length bytes.now ≤ limit }
-    ensures { IsAnswerBy (AnswersMap (task_relation CheckGeneral) bytes.now) result }
-{
-    let map = map_of_file(alloc, bytes, MAX_EDGES / 2)?;
-    Ok(counts_text(alloc, &map)?)
-}
-
-// `check CLASS`: the same of a map of the class.
+// `check CLASS`: how many vertices, edges and faces the map of the class has that is in the file.
 pub(crate) fn check_class<C: MapClass>(
     alloc: Global,
     bytes: &[u8],

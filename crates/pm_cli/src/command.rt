@@ -30,8 +30,6 @@ pub enum Reader {
 pub enum MapTask {
     /// Prints the canonical map of another map.
     Print(Image),
-    /// `check general`: how many vertices, edges and faces it has.
-    CheckGeneral,
     /// `open eulerian`: the tree that the map opens to, where its vertices have even degrees.
     OpenEulerian,
 }

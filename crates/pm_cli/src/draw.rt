@@ -14,6 +14,7 @@ use crate::sample::sample_text;
 use pm_class::{MapClass, each_list_is_sampled};
 use pm_draw::{draw_list, rng_of};
 use pm_euler::{Eulerian, Quartic};
+use pm_general::{Bipartite, General};
 use pm_io::{Failed, Sink};
 use pm_lists::{Bounds, put_list};
 use rand_pcg::Pcg64;
@@ -101,8 +102,10 @@ fn draw_sized<O: Sink>(
         (O.holds out.old) (O.holds out.new) (O.faults out.old) (O.faults out.new) result }
 {
     match size {
+        Size::General(size) => draw::<General, O>(alloc, size, seed, count, out),
         Size::Quartic(size) => draw::<Quartic, O>(alloc, size, seed, count, out),
         Size::Eulerian(profile) => draw::<Eulerian, O>(alloc, profile, seed, count, out),
+        Size::Bipartite(profile) => draw::<Bipartite, O>(alloc, profile, seed, count, out),
     }
 }
 

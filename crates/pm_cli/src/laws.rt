@@ -4,6 +4,7 @@ ghost use Rattle.pm_cli.specs.Laws.{HasOneAnswer, ClosedTreesOpen, OpenedMapsClo
 
 use pm_class::MapClass;
 use pm_euler::{Eulerian, Quartic};
+use pm_general::{Bipartite, General};
 
 // The laws of a class, as one bundle.
 fn law<C: MapClass>()
@@ -26,8 +27,10 @@ fn law<C: MapClass>()
 pub fn words_and_bytes_have_one_answer()
     ensures { HasOneAnswer }
 {
+    law::<General>();
     law::<Quartic>();
     law::<Eulerian>();
+    law::<Bipartite>();
 }
 
 /// A law: `open eulerian` gives back the file that `close eulerian` answered, and `close eulerian` the canonical map of the
@@ -45,6 +48,8 @@ pub fn sampling_undoes_unsampling()
     ensures files { UnsampledPairsReturn }
     ensures words { UnsampledPairsReturnByWords }
 {
+    law::<General>();
     law::<Quartic>();
     law::<Eulerian>();
+    law::<Bipartite>();
 }

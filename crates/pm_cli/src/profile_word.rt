@@ -8,7 +8,7 @@ use pm_trees::{Profile, ProfileRefusal};
 use std::alloc::{AllocError, Global};
 
 // The number of 32 bits that the text spells.
-fn small_number(text: &str) -> Option<u32>
+pub(crate) fn small_number(text: &str) -> Option<u32>
     ensures { MatchOption result
         ((value : ℕ) → value < 2 ^ 32 → text.now ≢ decimal value)
         (λ value. (value < 2 ^ 32) × (text.now ≡ decimal value)) }

@@ -187,7 +187,7 @@ sample quartic 0||2|usage 2
 sample quartic 2097153||2|usage 2
 sample quartic 01||2|usage 2
 sample quartic 1 x||2|usage 3
-sample general 1||2|usage 1
+sample simple 1||2|usage 1
 sample quartic 2097152||3|text 1
 sample quartic 1|choices 2 0 0/|4|list entry 0 2 2
 sample quartic 1|choices 0 2/|4|list length 3 2
@@ -244,7 +244,7 @@ sample eulerian 2:18446744073709551617|choices 0 0 0 0/|2|usage 2
 
 const UNSAMPLE: &str = "\
 unsample||2|usage 1
-unsample general||2|usage 1
+unsample simple||2|usage 1
 unsample quartic 2||2|usage 2
 unsample quartic|map 2 0/v 0 1 2 3/end/|3|text 4
 unsample quartic|map 2 0/v 0 1 2 3/end/residue  0/|3|text 4
@@ -287,6 +287,55 @@ draw quartic 1 7 1||0|choices 0 2 0/map 2 0/v 0 1 2 3/end/residue 2 0 0/
 draw quartic 2 0 1||0|choices 1 5 0 1 0/map 4 0/v 0 2 4 1/v 3 6 7 5/end/residue 0 2 1 0/
 draw quartic 3 18446744073709551615 2||0|choices 1 5 8 2 1 1 1/map 6 0/v 0 2 3 4/v 1 6 7 8/v 5 9 10 11/end/residue 1 2 2 1 0/choices 1 3 7 1 2 0 0/map 6 0/v 0 2 4 6/v 1 8 10 11/v 3 9 7 5/end/residue 4 3 2 1 0/
 draw eulerian 2:1,4:1 7 2||0|choices 0 2 0 0 0 2 1/map 3 0/v 0 2/v 1 3 4 5/end/residue 2 0 0 0 0 1/choices 2 1 0 0 0 1 1/map 3 0/v 0 2/v 1 3 4 5/end/residue 1 0 0 1 0 2/
+";
+
+const GENERAL: &str = "\
+sample general 0|choices 1/|0|map 0 0/end/residue 1 0/
+sample general 0|choices 2/|4|list entry 0 2 2
+sample general 1|choices 0 2 0/|0|map 1 0/v 0/v 1/end/residue 2 0 0/
+sample general 1|choices 0 0 0/|0|map 1 0/v 0 1/end/residue 0 0 0/
+sample general 2|choices 0 0 0 0 0/|0|map 2 0/v 0 1 2/v 3/end/residue 0 0 1 0/
+sample general||2|usage 2
+sample general 01||2|usage 2
+sample general 2097153||2|usage 2
+sample general 2097152||3|text 1
+sample general 1 x||2|usage 3
+unsample general|map 0 0/end/residue 1 0/|0|choices 1/
+unsample general|map 0 0/end/residue 2 0/|4|list entry 0 2 2
+unsample general|map 0 0/end/residue 1 1/|4|list entry 1 1 1
+unsample general|map 1 0/v 0/v 1/end/residue 2 0 0/|0|choices 0 2 0/
+unsample general|map 1 1/v 1/v 0/end/residue 2 0 0/|0|choices 0 2 0/
+unsample general|map 1 0/v 0/v 1/end/residue 3 0 0/|4|list entry 0 3 3
+unsample general|map 1 0/v 0/v 1/end/|3|text 5
+unsample general|map 2 0/v 0 2 1 3/end/residue 0 0 0 0/|6|map euler 0
+draw general 0 7 2||0|choices 0/map 0 0/end/residue 0 0/choices 1/map 0 0/end/residue 1 0/
+draw general 1 1 1||0|choices 0 0 1/map 1 0/v 0/v 1/end/residue 1 0 0/
+draw general 3 2 1||0|choices 0 4 1 0 1 0 0/map 3 0/v 0 2 3 1 4 5/end/residue 0 3 0 0 0/
+draw general 2097153 1 1||2|usage 2
+";
+
+const BIPARTITE: &str = "\
+sample bipartite 4:1|choices 0 0 0 2 0/|0|map 2 0/v 0 2/v 1/v 3/end/residue 0 0 0 0 2/
+sample bipartite 2:1,4:1|choices 3 1 0 0 0 1 1/|0|map 3 0/v 0 2/v 1 3 4/v 5/end/residue 1 0 0 0 0 2/
+sample bipartite 2:2,4:1,6:1|choices 4 5 2 4 0 1 0 0 0 0 1 7 0/|0|map 7 0/v 0 2/v 1 4 6/v 3 8 10 12/v 5 13 11 7/v 9/end/residue 2 0 0 0 0 3 1 0 0 4/
+sample bipartite 3:1||2|usage 2
+sample bipartite 2||2|usage 2
+sample bipartite 2:1|choices 0 0 0 2/|4|list entry 3 2 2
+unsample bipartite|map 2 0/v 0 2/v 1/v 3/end/residue 0 0 0 0 2/|0|choices 0 0 0 2 0/
+unsample bipartite|map 0 0/end/residue/|6|map empty
+unsample bipartite|map 1 0/v 0 1/end/residue 0 0 0/|6|map face 0
+unsample bipartite|map 2 0/v 0 2/v 1/v 3/end/residue 0 0 0 0 3/|4|list entry 4 3 3
+unsample bipartite 2:1||2|usage 2
+check bipartite|map 2 0/v 0 2/v 1/v 3/end/|0|ok 3 2 1/
+check bipartite|map 0 0/end/|6|map empty
+check bipartite|map 1 0/v 0 1/end/|6|map face 0
+check bipartite|map 1 0/v 0/v 1/end/|0|ok 2 1 1/
+check bipartite|map 2 1/v 0 2/v 1 3/end/|0|ok 2 2 2/
+check bipartite|map 2 0/v 0 2 1 3/end/|6|map euler 0
+check bipartite|map 2 0/v 0 1 2 3/end/|6|map face 1
+check bipartite 2:1||2|usage 2
+draw bipartite 2:1,4:1 7 1||0|choices 0 2 0 0 0 2 1/map 3 0/v 0 2/v 1 3 4/v 5/end/residue 2 0 0 0 0 1/
+draw bipartite 4:1 1 0||2|usage 4
 ";
 
 // The bytes that a part of a row writes.
@@ -335,6 +384,8 @@ fn answers_and_refusals(rt: HostRuntime) -> Result<(), Fail> {
         SAMPLE_MORE,
         UNSAMPLE,
         DRAW,
+        GENERAL,
+        BIPARTITE,
     ] {
         for row in rows.lines() {
             check_row(&rt, rt.alloc(), row)?;
@@ -427,7 +478,12 @@ fn back_again(rt: HostRuntime) -> Result<(), Fail> {
 // The line of choices of a drawn record, given to `sample`, gives the rest of the record, which `unsample` takes back.
 #[test]
 fn records_are_sampled(rt: HostRuntime) -> Result<(), Fail> {
-    for (class, size) in [("quartic", "1000"), ("eulerian", "2:300,4:300,6:100")] {
+    for (class, size) in [
+        ("general", "1000"),
+        ("quartic", "1000"),
+        ("eulerian", "2:300,4:300,6:100"),
+        ("bipartite", "2:300,4:300,6:100"),
+    ] {
         let line = format!(in rt.alloc(); "draw {class} {size} 7 1")?;
         let drawn = run_on(&rt, rt.alloc(), line.as_str(), b"", NONE)?;
         assert_eq!(rt; drawn.status, 0);

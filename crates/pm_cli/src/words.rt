@@ -1,23 +1,25 @@
 //! Which words are a command.
 ghost use Rattle.std.specs.Prelude.{◌≡◌, ◌≢◌, ◌<◌, ◌≤◌, ◌^◌, ◌↔◌, ℕ, [], ◌∷◌, codes, map, decimal, string_bytes, IsTrue, IfOk, MatchOption, MatchResult};
 ghost use Rattle.pm_euler.specs.Quartic.{IsQuarticSize};
+ghost use Rattle.pm_general.specs.General.{IsGeneralSize};
 ghost use Rattle.pm_cli.specs.declared.words.TheConstants.{MAX_RECORDS};
 ghost use Rattle.pm_cli.specs.declared.class.Class.{Class};
 ghost use Rattle.pm_cli.specs.declared.class.Size.{Size};
 ghost use Rattle.pm_cli.specs.declared.command.Command.{Command};
 ghost use Rattle.pm_cli.specs.declared.command.Command.TheVariants.{Reads};
 ghost use Rattle.pm_cli.specs.declared.words.Verb.{Verb};
-ghost use Rattle.pm_cli.specs.declared.words.Verb.TheVariants.{Close, Check, Sample, Draw};
+ghost use Rattle.pm_cli.specs.declared.words.Verb.TheVariants.{Close, Sample, Draw};
 ghost use Rattle.pm_cli.specs.declared.command.Reader.{Reader};
 ghost use Rattle.pm_cli.specs.Classes.{class_of, IsSize};
 ghost use Rattle.pm_cli.specs.Commands.{verb_word, class_word, size_word, size_words, IsCommand, Spells, IsNoCommand, AreDrawNumbers, number_words};
-ghost use Rattle.pm_cli.specs.steps.Words.{StopsAt, IsOneOf, IsClassWord, IsCheckedWord, AreSizeWords, AreNumberWords, AreDrawWords, AreBehind, IsBehind};
+ghost use Rattle.pm_cli.specs.steps.Words.{StopsAt, IsOneOf, IsClassWord, AreSizeWords, AreNumberWords, AreDrawWords, AreBehind, IsBehind};
 
 use crate::class::{Class, Size};
 use crate::command::{Command, Image, Maker, MapTask, Reader};
-use crate::profile_word::read_profile;
+use crate::profile_word::{read_profile, small_number};
 use pm_class::MapClass;
 use pm_euler::Quartic;
+use pm_general::General;
 use pm_text::number;
 use std::alloc::{AllocError, Global};
 
@@ -90,12 +92,32 @@ impl Class {
     fn of_word(word: &String) -> Option<Class>
         ensures { MatchOption result ((class : Class) → string_bytes word.now ≢ class_word class) (λ class. string_bytes word.now ≡ class_word class) }
     {
+        if is_word(word, "general") {
+            return Some(Class::General);
+        }
         if is_word(word, "quartic") {
             return Some(Class::Quartic);
         }
         if is_word(word, "eulerian") {
             return Some(Class::Eulerian);
         }
+        if is_word(word, "bipartite") {
+            return Some(Class::Bipartite);
+        }
+        None
+    }
+}
+
+// The size of general maps that the word spells, where there is one.
+fn general_size(word: &String) -> Option<u32>
+    ensures { MatchOption result
+        ((size : ℕ) → IsGeneralSize size → string_bytes word.now ≢ decimal size)
+        (λ size. IsGeneralSize size × (string_bytes word.now ≡ decimal size)) }
+{
+    let size = small_number(word.as_str())?;
+    if General::admissible(&size) {
+        Some(size)
+    } else {
         None
     }
 }
@@ -106,12 +128,7 @@ fn quartic_size(word: &String) -> Option<u32>
         ((size : ℕ) → IsQuarticSize size → string_bytes word.now ≢ decimal size)
         (λ size. IsQuarticSize size × (string_bytes word.now ≡ decimal size)) }
 {
-    let Some(value) = number(word.as_bytes()) else {
-        return None;
-    };
-    let Ok(size) = u32::try_from(value) else {
-        return None;
-    };
+    let size = small_number(word.as_str())?;
     if Quartic::admissible(&size) {
         Some(size)
     } else {
@@ -127,12 +144,20 @@ impl Size {
             (λ size. (class_of size ≡ class) × IsSize size × (string_bytes word.now ≡ size_word size))) }
     {
         match class {
+            Class::General => match general_size(word) {
+                Some(size) => Ok(Some(Size::General(size))),
+                None => Ok(None),
+            },
             Class::Quartic => match quartic_size(word) {
                 Some(size) => Ok(Some(Size::Quartic(size))),
                 None => Ok(None),
             },
             Class::Eulerian => match read_profile(alloc, word.as_str())? {
                 Some(profile) => Ok(Some(Size::Eulerian(profile))),
+                None => Ok(None),
+            },
+            Class::Bipartite => match read_profile(alloc, word.as_str())? {
+                Some(profile) => Ok(Some(Size::Bipartite(profile))),
                 None => Ok(None),
             },
         }
@@ -236,31 +261,6 @@ fn class_alone(words: &[String]) -> Result<Class, u32>
     if rest.is_empty() { Ok(class) } else { Err(1) }
 }
 
-// What is checked, by the one word `general` or that of a class, or how many of the words begin one.
-fn checked_alone(words: &[String]) -> Result<Reader, u32>
-    ensures { MatchResult result (λ reader. IsBehind Check (map string_bytes words.now) (Reads reader))
-        (λ k. (k < 2) × StopsAt (IsOneOf IsCheckedWord) (map string_bytes words.now) k) }
-{
-    let Some((first, rest)) = words.split_first() else {
-        return Err(0);
-    };
-    if is_word(first, "general") {
-        return if rest.is_empty() {
-            Ok(Reader::OfMap(MapTask::CheckGeneral))
-        } else {
-            Err(1)
-        };
-    }
-    let Some(class) = Class::of_word(first) else {
-        return Err(0);
-    };
-    if rest.is_empty() {
-        Ok(Reader::Check(class))
-    } else {
-        Err(1)
-    }
-}
-
 impl Command {
     // The command whose words are a verb and these words behind it, or how many of them may stand there.
     fn of_verb(
@@ -287,8 +287,8 @@ impl Command {
                     Ok(Err(0))
                 }
             }
-            Verb::Check => match checked_alone(words) {
-                Ok(reader) => Ok(Ok(Command::Reads(reader))),
+            Verb::Check => match class_alone(words) {
+                Ok(class) => Ok(Ok(Command::Reads(Reader::Check(class)))),
                 Err(matched) => Ok(Err(matched)),
             },
             Verb::Unsample => match class_alone(words) {

@@ -1,5 +1,5 @@
 -- How words are read as a command, piece by piece.
-use Rattle.std.specs.Prelude.{◌≡◌, ℕ, suc, ◌≤◌, ◌⊎◌, List, [], ◌∷◌, length, take, codes}
+use Rattle.std.specs.Prelude.{◌≡◌, ℕ, suc, ◌≤◌, List, [], ◌∷◌, length, take}
 use Rattle.pm_cli.specs.declared.class.Class.{Class}
 use Rattle.pm_cli.specs.declared.class.Class.TheVariants as class
 use Rattle.pm_cli.specs.declared.class.Size.{Size}
@@ -25,9 +25,6 @@ pub record IsOneOf (is_word : List ℕ → Type 0) (words : List (List ℕ)) : T
 
 abbrev pub IsClassWord : List ℕ → Type 0
 IsClassWord word = (class : Class) × (word ≡ class_word class)
-
-abbrev pub IsCheckedWord : List ℕ → Type 0
-IsCheckedWord word = (word ≡ codes "general") ⊎ IsClassWord word
 
 -- a class and a size of it
 pub record AreSizeWords (words : List (List ℕ)) : Type 0 where
@@ -55,7 +52,7 @@ abbrev pub AreBehind : Verb → List (List ℕ) → Type 0
 AreBehind verb.Close = IsOneOf (λ word. word ≡ class_word class.Eulerian)
 AreBehind verb.Open = IsOneOf (λ word. word ≡ class_word class.Eulerian)
 AreBehind (verb.Print image) = λ words. words ≡ []
-AreBehind verb.Check = IsOneOf IsCheckedWord
+AreBehind verb.Check = IsOneOf IsClassWord
 AreBehind verb.Sample = AreSizeWords
 AreBehind verb.Unsample = IsOneOf IsClassWord
 AreBehind verb.Draw = AreDrawWords

@@ -1,8 +1,8 @@
-use Rattle.std.proofs.Common.{ℕ, List, length, refl, ap, ◌∙◌, subst, sym, arith}
-use Rattle.std.specs.Prelude.{◌==◌, Err}
+use Rattle.std.proofs.Common.{ℕ, List, length, refl, ap, ◌∙◌, arith}
+use Rattle.std.specs.Prelude.{◌==◌}
 use Rattle.pm_map.specs.declared.class_refusal.ClassRefusal.TheVariants as class
 use Rattle.pm_cli.specs.declared.command.Image.TheVariants.{Medial}
-use Rattle.pm_cli.specs.declared.refusal.MapRule.TheVariants.{Empty, Vertex}
+use Rattle.pm_cli.specs.declared.refusal.MapRule.TheVariants.{Empty}
 use Rattle.pm_cli.specs.declared.refusal.Refusal.TheVariants.{Map}
 use Rattle.pm_cli.specs.MapAnswers.{AnswersMap, told, no_map, breaks, has_medial, no_medial, image_relation}
 use Rattle.pm_cli.proofs.Refusals.{passed_on}

@@ -1,4 +1,4 @@
-use Rattle.std.proofs.Common.{ℕ, List, length, refl, ap, ◌∙◌, subst, sym, arith}
+use Rattle.std.proofs.Common.{ℕ, List, length, refl, ap, ◌∙◌, subst, sym}
 use Rattle.std.specs.Prelude.{◌==◌, Err}
 use Rattle.pm_map.specs.declared.class_refusal.ClassRefusal.TheVariants as class
 use Rattle.pm_cli.specs.declared.command.Image.TheVariants.{Unmedial}

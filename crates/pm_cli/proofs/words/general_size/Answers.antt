@@ -1,0 +1,12 @@
+use Rattle.std.proofs.Common.{◌∙◌, sym, subst, arith}
+use Rattle.pm_general.specs.General.{IsGeneralSize}
+use Rattle.pm_cli.proofs.Sizes.{one_number}
+use Rattle.pm_cli.proofs.StoppingWords.{false_true}
+use Rattle.pm_cli.proofs.words.general_size.Goals as goal
+
+pub returns-else-admissible : goal.returns-else-admissible
+returns-else-admissible c size is e =
+    let few = is.few in
+    let read = c.in_ok-size.ensures in
+    let same = one_number _ c.in_ok-size.size size (omega (arith, read.0)) (omega arith) read.1 (c.as_str.ensures.value ∙ e) in
+    false_true (c.if-admissible.ensures.1 (subst IsGeneralSize (sym same) is))
