@@ -28,6 +28,7 @@ PROFILE_NODES = [1_000, 10_000, 100_000, 300_000]
 PROFILE_DEGREES = [[4], [2, 4, 6]]
 DRAWINGS = [(10, 1_000), (100, 1_000), (1_000, 1_000), (10_000, 100), (100_000, 10), (1_000_000, 1)]
 DRAW_SEED = 1
+CLASSES = ["quartic", "eulerian", "general", "bipartite"]
 
 
 class Run:
@@ -220,29 +221,37 @@ def tables(program):
 
     maps = [renamed(nodes) for nodes in MAP_NODES]
     more = maps + [renamed(LARGEST_NODES)]
-    samples = [Case(str(nodes), 2 * nodes, [maker("choices.py", "quartic", nodes)]) for nodes in SAMPLE_NODES]
     profiles = []
     for degrees in PROFILE_DEGREES:
         for nodes in PROFILE_NODES:
             profile = ",".join(f"{degree}:{nodes}" for degree in degrees)
             profiles.append(Case(profile, sum(degrees) // 2 * nodes, [maker("choices.py", "eulerian", profile)]))
 
+    # General maps take the lists of quartic ones, and bipartite maps those of eulerian ones.
+    choices = {"eulerian": profiles, "bipartite": profiles}
+    for name, edges in [("quartic", 2), ("general", 1)]:
+        choices[name] = [Case(str(size), edges * size, [maker("choices.py", "quartic", size)]) for size in SAMPLE_NODES]
+
     def sampled(case, name):
         return Case(case.label, case.edges, case.steps + [[program, "sample", name, case.label]])
+
+    def sampling(name):
+        return (f"Choices, `sample {name}`", lambda case: ["sample", name, case.label], choices[name])
+
+    def unsampling(name):
+        return (f"Samples, `unsample {name}`", lambda case: ["unsample", name], [sampled(case, name) for case in choices[name]])
 
     return [
         ("Deep trees, `close eulerian`", lambda case: ["close", "eulerian"], deep),
         ("Wide trees, `close eulerian`", lambda case: ["close", "eulerian"], wide),
         ("Maps, `canon`", lambda case: ["canon"], maps),
         ("Maps, `check general`", lambda case: ["check", "general"], maps),
-        ("Choices, `sample quartic`", lambda case: ["sample", "quartic", case.label], samples),
-        ("Choices, `sample eulerian`", lambda case: ["sample", "eulerian", case.label], profiles),
+        *map(sampling, CLASSES),
         ("Maps, `medial`", lambda case: ["medial"], more),
         ("Maps, `unmedial`", lambda case: ["unmedial"], more),
         ("Maps, `dual`", lambda case: ["dual"], more),
         ("Maps, `open eulerian`", lambda case: ["open", "eulerian"], maps),
-        ("Samples, `unsample quartic`", lambda case: ["unsample", "quartic"], [sampled(case, "quartic") for case in samples]),
-        ("Samples, `unsample eulerian`", lambda case: ["unsample", "eulerian"], [sampled(case, "eulerian") for case in profiles]),
+        *map(unsampling, CLASSES),
     ]
 
 
