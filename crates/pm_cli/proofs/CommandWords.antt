@@ -13,7 +13,7 @@ use Rattle.pm_cli.specs.declared.command.Reader.TheVariants.{CloseEulerian, OfMa
 use Rattle.pm_cli.specs.declared.command.MapTask.TheVariants.{Print, OpenEulerian}
 use Rattle.pm_cli.specs.declared.command.Image.{Image}
 use Rattle.pm_cli.specs.declared.command.Image.TheVariants.{Canon}
-use Rattle.pm_cli.specs.declared.command.Maker.TheVariants.{Draw}
+use Rattle.pm_cli.specs.declared.command.Maker.TheVariants.{Draw, Trip}
 use Rattle.pm_cli.specs.declared.words.Verb.{Verb}
 use Rattle.pm_cli.specs.declared.words.Verb.TheVariants as verb
 use Rattle.pm_cli.specs.Classes.{IsSize, class_of}
@@ -42,6 +42,8 @@ stands_behind (Reads (Unsample class)) is = record { word = class_word class; is
 stands_behind (Reads (Sample size)) is = record { size = size; admissible = is; are = refl }
 stands_behind (Makes (Draw seed count) size) is =
     record { size = size; admissible = is.1; rest = decimal seed ∷ decimal count ∷ []; numbers = record { seed = seed; count = count; numbers = is.0; are = refl }; are = refl }
+stands_behind (Makes (Trip seed) size) is =
+    record { size = size; admissible = is.1; rest = decimal seed ∷ []; numbers = record { word = decimal seed; is = (seed, (is.0, refl)); alone = refl }; are = refl }
 
 -- and what stands behind a verb is some command
 some_command : (v : Verb) (words : List (List ℕ)) → AreBehind v words → (command : Command) × IsBehind v words command
@@ -57,6 +59,16 @@ some_command verb.Draw words is =
     let n = is.numbers in (
       Makes (Draw n.seed n.count) is.size,
       record { is_command = (n.numbers, is.admissible); is_verb = refl; same = is.are ∙ ap (λ (rest : List (List ℕ)). class_word (class_of is.size) ∷ size_word is.size ∷ rest) n.are },
+    )
+some_command verb.Trip words is =
+    let n = is.numbers in
+    let seed = n.is in (
+      Makes (Trip seed.0) is.size,
+      record {
+        is_command = (seed.1.0, is.admissible);
+        is_verb = refl;
+        same = is.are ∙ ap (λ (rest : List (List ℕ)). class_word (class_of is.size) ∷ size_word is.size ∷ rest) (n.alone ∙ ap (λ (w : List ℕ). w ∷ []) seed.1.1);
+      },
     )
 
 -- words are no command, where a command begins with the first k of them and none with one more
@@ -130,6 +142,7 @@ data IsOfVerb : Verb → Command → Type 0 where
   unsamples : (class : Class) → IsOfVerb verb.Unsample (Reads (Unsample class))
   samples : (size : Size) → IsOfVerb verb.Sample (Reads (Sample size))
   draws : (seed count : ℕ) (size : Size) → IsOfVerb verb.Draw (Makes (Draw seed count) size)
+  trips : (seed : ℕ) (size : Size) → IsOfVerb verb.Trip (Makes (Trip seed) size)
 
 is_of_verb : (command : Command) → IsOfVerb (verb_of command) command
 is_of_verb (Reads CloseEulerian) = closes
@@ -139,9 +152,13 @@ is_of_verb (Reads (Check class)) = checks class
 is_of_verb (Reads (Unsample class)) = unsamples class
 is_of_verb (Reads (Sample size)) = samples size
 is_of_verb (Makes (Draw seed count) size) = draws seed count size
+is_of_verb (Makes (Trip seed) size) = trips seed size
 
 one_drawing : {s t : Size} {a b c d : ℕ} → s ≡ t → a ≡ b → c ≡ d → Makes (Draw a c) s ≡ Makes (Draw b d) t
 one_drawing x y z = cc
+
+one_trip : {s t : Size} {a b : ℕ} → s ≡ t → a ≡ b → Makes (Trip a) s ≡ Makes (Trip b) t
+one_trip x y = cc
 
 one_count : {s c t d : ℕ} → AreDrawNumbers s c → AreDrawNumbers t d → decimal c ≡ decimal d → c ≡ d
 one_count {s} {c} {t} {d} x y e = let p = x.few in let q = y.few in decimal_injective c d (omega arith) (omega arith) e
@@ -157,6 +174,8 @@ one_of_verb _ _ _ (draws s c a) (draws t d b) x y e =
     let rest = later_words (later_words e) in
     one_drawing (one_size a b x.1 y.1 (first_words e) (first_words (later_words e))) (let p = x.0 in let q = y.0 in decimal_injective s t p.fits q.fits (first_words rest))
     (one_count x.0 y.0 (first_words (later_words rest)))
+one_of_verb _ _ _ (trips s a) (trips t b) x y e =
+    one_trip (one_size a b x.1 y.1 (first_words e) (first_words (later_words e))) (decimal_injective s t x.0 y.0 (first_words (later_words (later_words e))))
 
 -- words are those of one command
 pub one_command : (words : List (List ℕ)) (a b : Command) → Spells words a → Spells words b → a ≡ b

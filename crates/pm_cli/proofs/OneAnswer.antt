@@ -8,7 +8,7 @@ use Rattle.pm_cli.specs.declared.class.Size.{Size}
 use Rattle.pm_cli.specs.declared.class.Size.TheVariants as sizes
 use Rattle.pm_cli.specs.declared.command.Command.TheVariants.{Reads, Makes}
 use Rattle.pm_cli.specs.declared.command.Maker.{Maker}
-use Rattle.pm_cli.specs.declared.command.Maker.TheVariants.{Draw}
+use Rattle.pm_cli.specs.declared.command.Maker.TheVariants.{Draw, Trip}
 use Rattle.pm_cli.specs.declared.command.Reader.{Reader}
 use Rattle.pm_cli.specs.declared.command.Reader.TheVariants.{CloseEulerian, OfMap, Check, Unsample, Sample}
 use Rattle.pm_cli.specs.declared.refusal.Refusal.{Refusal}
@@ -23,7 +23,7 @@ use Rattle.pm_cli.proofs.ClassLaws.{AreSamplers}
 use Rattle.pm_cli.proofs.CommandWords.{one_command}
 use Rattle.pm_cli.proofs.OneClosing.{closes_once}
 use Rattle.pm_cli.proofs.OneMapAnswer.{map_answers_once, one_counting, one_task}
-use Rattle.pm_cli.proofs.OneSampling.{samples_once, draws_once}
+use Rattle.pm_cli.proofs.OneSampling.{samples_once, draws_once, trips_once}
 use Rattle.pm_cli.proofs.OneUnsampling.{HasOneUnsampling, one_unsampling, unsamples_once}
 use Rattle.pm_class.specs.Sampling.{HasOneSample}
 use Rattle.pm_lists.specs.Valid.{IsValidList}
@@ -70,6 +70,7 @@ module _ (laws : AreSamplers) where
   -- and one to a size
   makes_once : (task : Maker) (size : Size) → IsSize size → (a b : Result (List ℕ) Refusal) → AnswersSize task (sized size) a → AnswersSize task (sized size) b → a ≡ b
   makes_once (Draw seed count) size is a b x y = let one = sized_laws size is in draws_once (sized size) one.one_sample one.valid seed count a b x y
+  makes_once (Trip seed) size is a b x y = let one = sized_laws size is in trips_once (sized size) one.one_sample seed a b x y
 
   same_task : {t u : Maker} {r s : Size} → Makes t r ≡ Makes u s → t ≡ u
   same_task e = cc

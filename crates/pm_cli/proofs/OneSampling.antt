@@ -17,7 +17,9 @@ use Rattle.pm_draw.specs.Drawn.{generator_of, words_of}
 use Rattle.pm_cli.specs.Drawing.{Draws}
 use Rattle.pm_class.specs.Sampling.{HasOneSample}
 use Rattle.pm_cli.specs.Classes.{AtSize}
+use Rattle.pm_cli.specs.MapAnswers.{counts_line}
 use Rattle.pm_cli.specs.Sampling.{IsChoicesFile, HasChoices, IsSampleText, Samples, sampled, no_list, not_valid}
+use Rattle.pm_cli.specs.Trip.{first_drawn, Trips}
 use Rattle.pm_cli.proofs.ChoicesLines.{one_choices}
 use Rattle.pm_cli.proofs.OneText.{one_text}
 use Rattle.pm_cli.proofs.Records.{records_once}
@@ -85,3 +87,12 @@ module _ (at : AtSize) (one : HasOneSample at.samples)
   draws_once seed count (Ok text) (Ok other) x y = ap Ok (records_once at.choice_limits at.samples one_sample_text (words_of (generator_of seed)) count text other x y)
   draws_once seed count (Ok text) (Err refusal) x y = absurd y
   draws_once seed count (Err refusal) b x y = absurd x
+
+-- a trip has one answer, where choices give one map
+pub trips_once : (at : AtSize) → HasOneSample at.samples → (seed : ℕ) (a b : Result (List ℕ) Refusal)
+    → Trips at.choice_limits at.samples seed a → Trips at.choice_limits at.samples seed b → a ≡ b
+trips_once at one seed (Ok text) (Ok other) x y =
+    let same = one (first_drawn at.choice_limits seed) x.map y.map x.residue y.residue x.sampled y.sampled in
+    ap Ok (x.is_text ∙ ap (λ (m : RotationSystem). codes "trip " ++ counts_line m) same.0 ∙ sym y.is_text)
+trips_once at one seed (Ok text) (Err refusal) x y = absurd y
+trips_once at one seed (Err refusal) b x y = absurd x

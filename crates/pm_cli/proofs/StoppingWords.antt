@@ -11,7 +11,7 @@ use Rattle.pm_cli.specs.declared.class.Size.TheVariants as sizes
 use Rattle.pm_cli.specs.declared.words.TheConstants.{MAX_RECORDS}
 use Rattle.pm_cli.specs.Classes.{IsSize, class_of}
 use Rattle.pm_cli.specs.Commands.{class_word, size_word, size_words, number_words, AreDrawNumbers}
-use Rattle.pm_cli.specs.steps.Words.{StopsAt, IsOneOf, AreSizeWords, AreNumberWords, AreDrawWords}
+use Rattle.pm_cli.specs.steps.Words.{StopsAt, IsOneOf, AreSizeWords, AreNumberWords, AreSizedWords}
 use Rattle.pm_cli.proofs.WordTables.{one_class}
 
 -- no words
@@ -131,7 +131,7 @@ words_after_size words rest size e is more = record {
   no_more = λ other h same. no_word_more rest more (later_words (later_words (ap (take 3) (sym e) ∙ same ∙ ap (take 3) h.are)));
 }
 
-some_numbers : AreNumberWords (number_words 0 1)
+pub some_numbers : AreNumberWords (number_words 0 1)
 some_numbers = record { seed = 0; count = 1; numbers = record { fits = omega arith; some = omega arith; few = omega arith }; are = refl }
 
 -- no seed stands first
@@ -160,38 +160,40 @@ words_after_numbers words rest seed count e numbers more = record {
   no_more = λ other h same. no_word_more rest more (later_words (later_words (ap (take 3) (sym e) ∙ same ∙ ap (take 3) h.are)));
 }
 
--- words that begin no class and size begin none with numbers behind
-pub no_size_to_draw : (words : List (List ℕ)) (k : ℕ) → k < 2 → StopsAt AreSizeWords words k → StopsAt AreDrawWords words k
-no_size_to_draw words k l stops = record {
-  whole = size_words is.size (number_words 0 1);
-  is_in = record { size = is.size; admissible = is.admissible; rest = number_words 0 1; numbers = some_numbers; are = refl };
-  within = stops.within;
-  same = stops.same ∙ ap (take k) is.are ∙ shorter k is.size (number_words 0 1) l;
-  no_more = λ other h e.
-      let size = h.size in
-      stops.no_more (size_words size []) (size_set size h.admissible) (e ∙ ap (take (suc k)) h.are ∙ sym (longer k size h.rest l));
-} where
-  is : AreSizeWords stops.whole
-  is = stops.is_in
+-- where numbers of a set stand behind a class and a size of it
+module _ (behind : List (List ℕ) → Type 0) where
+  -- words that begin no class and size begin none with such numbers behind
+  pub no_size_before : (words some : List (List ℕ)) (k : ℕ) → behind some → k < 2 → StopsAt AreSizeWords words k → StopsAt (AreSizedWords behind) words k
+  no_size_before words some k good l stops = record {
+    whole = size_words is.size some;
+    is_in = record { size = is.size; admissible = is.admissible; rest = some; numbers = good; are = refl };
+    within = stops.within;
+    same = stops.same ∙ ap (take k) is.are ∙ shorter k is.size some l;
+    no_more = λ other h e.
+        let size = h.size in
+        stops.no_more (size_words size []) (size_set size h.admissible) (e ∙ ap (take (suc k)) h.are ∙ sym (longer k size h.rest l));
+  } where
+    is : AreSizeWords stops.whole
+    is = stops.is_in
 
-  shorter : (k : ℕ) (size : Size) (rest : List (List ℕ)) → k < 2 → take k (size_words size []) ≡ take k (size_words size rest)
-  shorter zero size rest l = refl
-  shorter (suc zero) size rest l = refl
-  shorter (suc (suc k)) size rest l = absurd (omega arith)
+    shorter : (k : ℕ) (size : Size) (rest : List (List ℕ)) → k < 2 → take k (size_words size []) ≡ take k (size_words size rest)
+    shorter zero size rest l = refl
+    shorter (suc zero) size rest l = refl
+    shorter (suc (suc k)) size rest l = absurd (omega arith)
 
-  longer : (k : ℕ) (size : Size) (rest : List (List ℕ)) → k < 2 → take (suc k) (size_words size []) ≡ take (suc k) (size_words size rest)
-  longer zero size rest l = refl
-  longer (suc zero) size rest l = refl
-  longer (suc (suc k)) size rest l = absurd (omega arith)
+    longer : (k : ℕ) (size : Size) (rest : List (List ℕ)) → k < 2 → take (suc k) (size_words size []) ≡ take (suc k) (size_words size rest)
+    longer zero size rest l = refl
+    longer (suc zero) size rest l = refl
+    longer (suc (suc k)) size rest l = absurd (omega arith)
 
--- a class and a size of it, and no numbers behind
-pub no_numbers_to_draw : (words rest : List (List ℕ)) (size : Size) (k : ℕ) → words ≡ size_words size rest → IsSize size → StopsAt AreNumberWords rest k
-    → StopsAt AreDrawWords words (2 + k)
-no_numbers_to_draw words rest size k e is stops =
-    subst (λ (n : ℕ). StopsAt AreDrawWords words n) (omega arith) (subst (λ (w : List (List ℕ)). StopsAt AreDrawWords w (suc (suc k))) (sym e) (record {
-      whole = size_words size stops.whole;
-      is_in = record { size = size; admissible = is; rest = stops.whole; numbers = stops.is_in; are = refl };
-      within = let l = stops.within in omega arith;
-      same = ap (size_words size) stops.same;
-      no_more = λ other h same. stops.no_more h.rest h.numbers (later_words (later_words (same ∙ ap (take (suc (suc (suc k)))) h.are)));
-    }))
+  -- a class and a size of it, and no such numbers behind
+  pub none_after_size : (words rest : List (List ℕ)) (size : Size) (k : ℕ) → words ≡ size_words size rest → IsSize size → StopsAt behind rest k
+      → StopsAt (AreSizedWords behind) words (2 + k)
+  none_after_size words rest size k e is stops =
+      subst (λ (n : ℕ). StopsAt (AreSizedWords behind) words n) (omega arith) (subst (λ (w : List (List ℕ)). StopsAt (AreSizedWords behind) w (suc (suc k))) (sym e) (record {
+        whole = size_words size stops.whole;
+        is_in = record { size = size; admissible = is; rest = stops.whole; numbers = stops.is_in; are = refl };
+        within = let l = stops.within in omega arith;
+        same = ap (size_words size) stops.same;
+        no_more = λ other h same. stops.no_more h.rest h.numbers (later_words (later_words (same ∙ ap (take (suc (suc (suc k)))) h.are)));
+      }))

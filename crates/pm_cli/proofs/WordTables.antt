@@ -25,7 +25,7 @@ abbrev verbs : List (List ℕ × Verb)
 verbs =
     (codes "close", verb.Close) ∷ (codes "open", verb.Open) ∷ (codes "canon", verb.Print Canon) ∷ (codes "medial", verb.Print Medial) ∷ (codes "unmedial", verb.Print Unmedial) ∷ (codes "dual", verb.Print Dual)
     ∷ (codes "check", verb.Check) ∷ (codes "sample", verb.Sample)
-    ∷ (codes "unsample", verb.Unsample) ∷ (codes "draw", verb.Draw) ∷ []
+    ∷ (codes "unsample", verb.Unsample) ∷ (codes "draw", verb.Draw) ∷ (codes "trip", verb.Trip) ∷ []
 
 verb_found : (v : Verb) → looked_up verbs (verb_word v) ≡ Some v
 verb_found verb.Close = refl
@@ -38,6 +38,7 @@ verb_found verb.Check = refl
 verb_found verb.Sample = refl
 verb_found verb.Unsample = refl
 verb_found verb.Draw = refl
+verb_found verb.Trip = refl
 
 pub one_verb : (a b : Verb) → verb_word a ≡ verb_word b → a ≡ b
 one_verb = one_value verbs verb_word verb_found

@@ -4,7 +4,7 @@ use Rattle.pm_io.specs.declared.TheConstants.{MAX_BYTES}
 use Rattle.pm_cli.specs.declared.class.Size.{Size}
 use Rattle.pm_cli.specs.declared.command.Command.TheVariants.{Reads, Makes}
 use Rattle.pm_cli.specs.declared.command.Maker.{Maker}
-use Rattle.pm_cli.specs.declared.command.Maker.TheVariants.{Draw}
+use Rattle.pm_cli.specs.declared.command.Maker.TheVariants.{Draw, Trip}
 use Rattle.pm_cli.specs.declared.command.Reader.{Reader}
 use Rattle.pm_cli.specs.declared.command.Reader.TheVariants.{CloseEulerian, OfMap, Check, Unsample, Sample}
 use Rattle.pm_cli.specs.declared.refusal.Limit.TheVariants.{Bytes}
@@ -16,6 +16,7 @@ use Rattle.pm_cli.specs.Commands.{Spells, IsNoCommand}
 use Rattle.pm_cli.specs.Drawing.{Draws}
 use Rattle.pm_cli.specs.MapAnswers.{MapRelation, AnswersMap, task_relation}
 use Rattle.pm_cli.specs.Sampling.{Samples}
+use Rattle.pm_cli.specs.Trip.{Trips}
 use Rattle.pm_cli.specs.Unsampling.{Unsamples}
 
 -- the check of a class
@@ -33,6 +34,7 @@ AnswersReader (Sample size) bytes answer = Samples (sized size) bytes answer
 -- what is made of a size
 abbrev pub AnswersSize : Maker → AtSize → Result (List ℕ) Refusal → Type 0
 AnswersSize (Draw seed count) at answer = Draws at.choice_limits at.samples seed count answer
+AnswersSize (Trip seed) at answer = Trips at.choice_limits at.samples seed answer
 
 -- the answer, by the first rule that applies
 pub data Answers (words : List (List ℕ)) (bytes : List ℕ) : Result (List ℕ) Refusal → Type 0 where

@@ -11,7 +11,7 @@ use Rattle.pm_cli.specs.declared.command.Reader.TheVariants.{CloseEulerian, OfMa
 use Rattle.pm_cli.specs.declared.command.MapTask.TheVariants.{Print, OpenEulerian}
 use Rattle.pm_cli.specs.declared.command.Image.TheVariants.{Canon, Medial, Unmedial, Dual}
 use Rattle.pm_cli.specs.declared.command.Maker.{Maker}
-use Rattle.pm_cli.specs.declared.command.Maker.TheVariants.{Draw}
+use Rattle.pm_cli.specs.declared.command.Maker.TheVariants.{Draw, Trip}
 use Rattle.pm_cli.specs.declared.words.TheConstants.{MAX_RECORDS}
 use Rattle.pm_cli.specs.declared.words.Verb.{Verb}
 use Rattle.pm_cli.specs.declared.words.Verb.TheVariants as verb
@@ -29,6 +29,7 @@ verb_word verb.Check = codes "check"
 verb_word verb.Sample = codes "sample"
 verb_word verb.Unsample = codes "unsample"
 verb_word verb.Draw = codes "draw"
+verb_word verb.Trip = codes "trip"
 
 abbrev pub class_word : Class → List ℕ
 class_word class.General = codes "general"
@@ -59,6 +60,7 @@ verb_of (Reads (Check class)) = verb.Check
 verb_of (Reads (Unsample class)) = verb.Unsample
 verb_of (Reads (Sample size)) = verb.Sample
 verb_of (Makes (Draw seed count) size) = verb.Draw
+verb_of (Makes (Trip seed) size) = verb.Trip
 
 abbrev pub behind : Command → List (List ℕ)
 behind (Reads CloseEulerian) = codes "eulerian" ∷ []
@@ -68,6 +70,7 @@ behind (Reads (Check class)) = class_word class ∷ []
 behind (Reads (Unsample class)) = class_word class ∷ []
 behind (Reads (Sample size)) = size_words size []
 behind (Makes (Draw seed count) size) = size_words size (number_words seed count)
+behind (Makes (Trip seed) size) = size_words size (decimal seed ∷ [])
 
 -- the words of a command
 abbrev pub spelling : Command → List (List ℕ)
@@ -89,6 +92,7 @@ IsReader (Unsample class) = ⊤
 
 abbrev pub IsMaker : Maker → Type 0
 IsMaker (Draw seed count) = AreDrawNumbers seed count
+IsMaker (Trip seed) = seed < 2 ^ 64
 
 abbrev pub IsCommand : Command → Type 0
 IsCommand (Reads reader) = IsReader reader

@@ -5,7 +5,7 @@ use Rattle.pm_io.specs.Faults.{FaultsRose}
 use Rattle.pm_cli.specs.declared.class.Size.{Size}
 use Rattle.pm_cli.specs.declared.command.Command.TheVariants.{Reads, Makes}
 use Rattle.pm_cli.specs.declared.command.Maker.{Maker}
-use Rattle.pm_cli.specs.declared.command.Maker.TheVariants.{Draw}
+use Rattle.pm_cli.specs.declared.command.Maker.TheVariants.{Draw, Trip}
 use Rattle.pm_cli.specs.declared.command.Reader.{Reader}
 use Rattle.pm_cli.specs.declared.refusal.Stop.{Stop}
 use Rattle.pm_cli.specs.declared.refusal.Stop.TheVariants.{Refused, Read, Write, Memory}
@@ -27,9 +27,10 @@ ReadInput words = (task : Maker) (size : Size) → Spells words (Makes task size
 abbrev pub WriteWhole : List (List ℕ) → Type 0
 WriteWhole words = (seed count : ℕ) (size : Size) → Spells words (Makes (Draw seed count) size) → ⊥
 
--- the first records of a task that writes its answer record by record
+-- the first records of a task that writes its answer record by record, which `trip` doesn't
 abbrev pub IsFirstRecords : Maker → AtSize → List ℕ → Type 0
 IsFirstRecords (Draw seed count) at text = HasFirstRecords at.choice_limits at.samples seed count text
+IsFirstRecords (Trip seed) at text = ⊥
 
 -- the input holds these bytes, where it tells them; where the words read nothing, any bytes serve
 abbrev pub IsInput : List (List ℕ) → Option (List ℕ) → List ℕ → Type 0

@@ -10,5 +10,6 @@ pub mod MapAnswers
 pub mod ProfileWord
 pub mod Sampling
 pub mod TreeFile
+pub mod Trip
 pub mod Unsampling
 pub mod steps

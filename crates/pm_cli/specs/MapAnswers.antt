@@ -107,10 +107,13 @@ pub data PrintsUnmedial (map : RotationSystem) : Result (List ℕ) ClassRefusal 
   not_quartic : (dart : ℕ) → IsLeastOther (structure_of map) (Exactly 4) dart → PrintsUnmedial map (Err (class.Vertex dart))
 
 -- `ok V E F`: how many vertices, edges and faces the map has
-abbrev pub IsCountsText : RotationSystem → List ℕ → Type 0
-IsCountsText map text =
+abbrev pub counts_line : RotationSystem → List ℕ
+counts_line map =
     let s = structure_of map in
-    text ≡ codes "ok " ++ decimal (vertices s) ++ codes " " ++ decimal (edges s) ++ codes " " ++ decimal (faces s) ++ newline ∷ []
+    codes "ok " ++ decimal (vertices s) ++ codes " " ++ decimal (edges s) ++ codes " " ++ decimal (faces s) ++ newline ∷ []
+
+abbrev pub IsCountsText : RotationSystem → List ℕ → Type 0
+IsCountsText map text = text ≡ counts_line map
 
 -- a map of a class is told its counts, another the first rule that it breaks
 abbrev pub CountsIn : {Measure : Type 0} → (RotationSystem → Result Measure ClassRefusal → Type 0) → RotationSystem → Result (List ℕ) ClassRefusal → Type 0

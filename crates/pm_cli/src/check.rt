@@ -12,7 +12,7 @@ use pm_text::put_number;
 use std::alloc::{AllocError, Global};
 
 // The line of how many vertices, edges and faces the map has.
-fn counts_text(alloc: Global, map: &RootedMap) -> Result<Vec<u8>, AllocError>
+pub(crate) fn counts_text(alloc: Global, map: &RootedMap) -> Result<Vec<u8>, AllocError>
     ensures { IfOk result (λ text. IsCountsText map.now text.items) }
 {
     let mut marks = vec![in alloc; false; map.sigma().len()]?;

@@ -52,4 +52,7 @@ pub enum Image {
 pub enum Maker {
     /// `draw CLASS SIZE SEED COUNT`: draws lists of choices, and answers each with its map and residue.
     Draw { seed: u64, count: u64 },
+    /// `trip CLASS SIZE SEED`: draws a list of choices, samples it, unsamples what it gave, and counts the vertices, edges
+    /// and faces of its map.
+    Trip { seed: u64 },
 }

@@ -11,6 +11,8 @@ use crate::class::Size;
 use crate::command::Maker;
 use crate::refusal::Stop;
 use crate::sample::sample_text;
+use crate::trip::trip_sized;
+use crate::writing::write_text;
 use pm_class::{MapClass, each_list_is_sampled};
 use pm_draw::{draw_list, rng_of};
 use pm_euler::{Eulerian, Quartic};
@@ -109,7 +111,7 @@ fn draw_sized<O: Sink>(
     }
 }
 
-// Does a task with a size, and writes its records.
+// Does a task with a size, and writes its answer.
 pub(crate) fn make<O: Sink>(
     alloc: Global,
     task: &Maker,
@@ -122,5 +124,12 @@ pub(crate) fn make<O: Sink>(
 {
     match task {
         Maker::Draw { seed, count } => draw_sized(alloc, size, *seed, *count, out),
+        Maker::Trip { seed } => {
+            let text = match trip_sized(alloc, size, *seed) {
+                Ok(text) => text,
+                Err(_) => return Err(Stop::Memory),
+            };
+            write_text(out, &text)
+        }
     }
 }

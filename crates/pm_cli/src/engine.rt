@@ -5,12 +5,13 @@ ghost use Rattle.pm_io.specs.Faults.{FaultsRose};
 ghost use Rattle.pm_cli.specs.declared.refusal.Stop.{Stop};
 ghost use Rattle.pm_cli.specs.Ending.{Ends, IsTold, HasNothingLeft, ReadInput, ReadNothing, WriteWhole};
 ghost use Rattle.pm_cli.specs.Lines.{status_of, status_of_stop};
-ghost use Rattle.pm_cli.specs.steps.Streams.{IsReading, IsToldFor, IsWriting};
+ghost use Rattle.pm_cli.specs.steps.Streams.{IsReading, IsToldFor};
 
 use crate::answer::answer;
 use crate::command::Command;
 use crate::draw::make;
 use crate::refusal::{Limit, Refusal, Stop};
+use crate::writing::write_text;
 use pm_io::{Failed, MAX_BYTES, ReadRefusal, Sink, Source, read_all};
 use std::alloc::Global;
 
@@ -26,21 +27,7 @@ fn read_input<S: Source>(alloc: Global, input: &mut S) -> Result<Vec<u8>, Stop>
     }
 }
 
-// Writes a text whole, and hands it on.
-fn write_text<O: Sink>(out: &mut O, text: &[u8]) -> Result<(), Stop>
-    ensures written { IsWriting text.now (O.holds out.old) (O.holds out.new) (O.faults out.old) (O.faults out.new) result }
-{
-    match out.write(text) {
-        Ok(()) => {}
-        Err(Failed) => return Err(Stop::Write),
-    }
-    match out.flush() {
-        Ok(()) => Ok(()),
-        Err(Failed) => Err(Stop::Write),
-    }
-}
-
-// Does what the words say: reads, answers and writes, or draws records and writes them.
+// Does what the words say: reads, answers and writes, or makes what it writes of a size.
 fn perform<S: Source, O: Sink>(
     alloc: Global,
     words: &[String],
@@ -127,13 +114,13 @@ fn write_line<E: Sink>(err: &mut E, line: &[u8])
 /// Does all that the program does: takes the words after the program's name, reads `input`, writes the answer to `out`
 /// and, where there is none, a line to `err`, and answers the status.
 ///
-/// All input is read before the first write; a command that draws reads nothing, and writes record by record. The
+/// All input is read before the first write; a command that draws reads nothing, and `draw` writes record by record. The
 /// statuses are 0 for an answer; 2 for words that are no command; 3, 4, 6, 7 and 12 for a file that is refused by its text,
 /// its list, its map, a limit or the tree's rules; 5 where `input` failed, 8 where `out` failed and 9 where memory was
 /// wanting, which may show before anything is read where a word spells a profile. A failing `err` changes no status.
 ///
-/// At 8 there is an answer, and a front of it was added to `out`. At 9 nothing was added, or by a command that draws the
-/// first records of the answer, which there is.
+/// At 8 there is an answer, and a front of it was added to `out`. At 9 nothing was added, or by `draw` the first records
+/// of the answer, which there is.
 pub fn run<S: Source, O: Sink, E: Sink>(
     alloc: Global,
     words: &[String],

@@ -18,8 +18,10 @@ mod refusal;
 mod sample;
 mod stops;
 mod tree_file;
+mod trip;
 mod unsample;
 mod words;
+mod writing;
 
 pub use class::{Class, Size};
 pub use command::{Command, Image, Maker, MapTask, Reader};

@@ -338,6 +338,21 @@ draw bipartite 2:1,4:1 7 1||0|choices 0 2 0 0 0 2 1/map 3 0/v 0 2/v 1 3 4/v 5/en
 draw bipartite 4:1 1 0||2|usage 4
 ";
 
+const TRIP: &str = "\
+trip||2|usage 1
+trip square 1 1||2|usage 1
+trip quartic||2|usage 2
+trip quartic 0 1||2|usage 2
+trip quartic 1||2|usage 3
+trip quartic 1 -1||2|usage 3
+trip quartic 1 7 1||2|usage 4
+trip quartic 20 1||0|trip ok 20 40 22/
+trip eulerian 4:50 3||0|trip ok 50 100 52/
+trip bipartite 4:50 3||0|trip ok 52 100 50/
+trip general 0 7||0|trip ok 1 0 1/
+trip general 100 7||0|trip ok 47 100 55/
+";
+
 // The bytes that a part of a row writes.
 fn bytes_of(alloc: Global, text: &str) -> Result<Vec<u8>, AllocError> {
     let mut bytes = Vec::new(alloc);
@@ -384,6 +399,7 @@ fn answers_and_refusals(rt: HostRuntime) -> Result<(), Fail> {
         SAMPLE_MORE,
         UNSAMPLE,
         DRAW,
+        TRIP,
         GENERAL,
         BIPARTITE,
     ] {
@@ -395,10 +411,10 @@ fn answers_and_refusals(rt: HostRuntime) -> Result<(), Fail> {
 }
 
 // Each record has one write, so what a failing second write leaves is the first record and a front of the second one. A
-// drawing reads nothing.
+// drawing reads nothing, nor does a trip.
 #[test]
 fn failing_streams(rt: HostRuntime) -> Result<(), Fail> {
-    let (close, draw) = ("close eulerian", "draw quartic 1 7 2");
+    let (close, draw, trip) = ("close eulerian", "draw quartic 1 7 2", "trip quartic 20 1");
     for (line, faults, status, kept, told) in [
         (close, Faults { read: 3, ..NONE }, 5, 0, "read"),
         (
@@ -428,6 +444,8 @@ fn failing_streams(rt: HostRuntime) -> Result<(), Fail> {
             "write",
         ),
         (draw, Faults { out: 3, ..NONE }, 8, 100, "write"),
+        (trip, Faults { read: 1, ..NONE }, 0, 17, ""),
+        (trip, Faults { out: 2, ..NONE }, 8, 17, "write"),
     ] {
         let whole = run_on(&rt, rt.alloc(), line, b"tree lbl\n", NONE)?;
         let run = run_on(&rt, rt.alloc(), line, b"tree lbl\n", faults)?;

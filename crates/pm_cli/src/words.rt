@@ -8,11 +8,11 @@ ghost use Rattle.pm_cli.specs.declared.class.Size.{Size};
 ghost use Rattle.pm_cli.specs.declared.command.Command.{Command};
 ghost use Rattle.pm_cli.specs.declared.command.Command.TheVariants.{Reads};
 ghost use Rattle.pm_cli.specs.declared.words.Verb.{Verb};
-ghost use Rattle.pm_cli.specs.declared.words.Verb.TheVariants.{Close, Sample, Draw};
+ghost use Rattle.pm_cli.specs.declared.words.Verb.TheVariants.{Close, Sample, Draw, Trip};
 ghost use Rattle.pm_cli.specs.declared.command.Reader.{Reader};
 ghost use Rattle.pm_cli.specs.Classes.{class_of, IsSize};
 ghost use Rattle.pm_cli.specs.Commands.{verb_word, class_word, size_word, size_words, IsCommand, Spells, IsNoCommand, AreDrawNumbers, number_words};
-ghost use Rattle.pm_cli.specs.steps.Words.{StopsAt, IsOneOf, IsClassWord, AreSizeWords, AreNumberWords, AreDrawWords, AreBehind, IsBehind};
+ghost use Rattle.pm_cli.specs.steps.Words.{StopsAt, IsOneOf, IsClassWord, AreSizeWords, AreNumberWords, AreSeedWords, AreDrawWords, AreTripWords, AreBehind, IsBehind};
 
 use crate::class::{Class, Size};
 use crate::command::{Command, Image, Maker, MapTask, Reader};
@@ -39,6 +39,7 @@ pub enum Verb {
     Sample,
     Unsample,
     Draw,
+    Trip,
 }
 
 // Whether the word is this text.
@@ -82,6 +83,9 @@ impl Verb {
         }
         if is_word(word, "draw") {
             return Some(Verb::Draw);
+        }
+        if is_word(word, "trip") {
+            return Some(Verb::Trip);
         }
         None
     }
@@ -233,6 +237,21 @@ fn read_numbers(words: &[String]) -> Result<(u64, u64), u32>
     }
 }
 
+// Reads a seed, which is the only word, or says how many of the words begin it.
+fn seed_alone(words: &[String]) -> Result<u64, u32>
+    ensures { MatchResult result
+        (λ seed. (seed < 2 ^ 64) × (map string_bytes words.now ≡ decimal seed ∷ []))
+        (λ k. (k < 2) × StopsAt AreSeedWords (map string_bytes words.now) k) }
+{
+    let Some((first, rest)) = words.split_first() else {
+        return Err(0);
+    };
+    let Some(seed) = number(first.as_bytes()) else {
+        return Err(0);
+    };
+    if rest.is_empty() { Ok(seed) } else { Err(1) }
+}
+
 // Reads the one word `eulerian`, or says how many of the words begin it.
 fn eulerian_alone(words: &[String]) -> Result<(), u32>
     ensures { MatchResult result (λ _. map string_bytes words.now ≡ codes "eulerian" ∷ [])
@@ -297,6 +316,7 @@ impl Command {
             },
             Verb::Sample => Command::of_sample(alloc, words),
             Verb::Draw => Command::of_draw(alloc, words),
+            Verb::Trip => Command::of_trip(alloc, words),
         }
     }
 
@@ -326,6 +346,23 @@ impl Command {
             Ok(Sized { size, rest }) => match read_numbers(rest) {
                 Ok((seed, count)) => Ok(Ok(Command::Makes {
                     task: Maker::Draw { seed, count },
+                    size,
+                })),
+                Err(matched) => Ok(Err(2 + matched)),
+            },
+            Err(matched) => Ok(Err(matched)),
+        }
+    }
+
+    // The same behind `trip`.
+    fn of_trip(alloc: Global, words: &[String]) -> Result<Result<Command, u32>, AllocError>
+        ensures { IfOk result (λ found. MatchResult found (IsBehind Trip (map string_bytes words.now))
+            (λ k. (k < 5) × StopsAt AreTripWords (map string_bytes words.now) k)) }
+    {
+        match read_size(alloc, words)? {
+            Ok(Sized { size, rest }) => match seed_alone(rest) {
+                Ok(seed) => Ok(Ok(Command::Makes {
+                    task: Maker::Trip { seed },
                     size,
                 })),
                 Err(matched) => Ok(Err(2 + matched)),

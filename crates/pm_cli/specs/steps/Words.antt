@@ -1,5 +1,5 @@
 -- How words are read as a command, piece by piece.
-use Rattle.std.specs.Prelude.{◌≡◌, ℕ, suc, ◌≤◌, List, [], ◌∷◌, length, take}
+use Rattle.std.specs.Prelude.{◌≡◌, ℕ, suc, ◌<◌, ◌≤◌, ◌^◌, List, [], ◌∷◌, length, take, decimal}
 use Rattle.pm_cli.specs.declared.class.Class.{Class}
 use Rattle.pm_cli.specs.declared.class.Class.TheVariants as class
 use Rattle.pm_cli.specs.declared.class.Size.{Size}
@@ -39,13 +39,28 @@ pub record AreNumberWords (words : List (List ℕ)) : Type 0 where
   pub numbers : AreDrawNumbers seed count
   pub are : words ≡ number_words seed count
 
--- a class and a size of it, and then a seed and a count
-pub record AreDrawWords (words : List (List ℕ)) : Type 0 where
+-- a seed
+abbrev pub IsSeedWord : List ℕ → Type 0
+IsSeedWord word = (seed : ℕ) × ((seed < 2 ^ 64) × (word ≡ decimal seed))
+
+abbrev pub AreSeedWords : List (List ℕ) → Type 0
+AreSeedWords words = IsOneOf IsSeedWord words
+
+-- a class and a size of it, and then numbers of a set
+pub record AreSizedWords (in_set : List (List ℕ) → Type 0) (words : List (List ℕ)) : Type 0 where
   pub size : Size
   pub admissible : IsSize size
   pub rest : List (List ℕ)
-  pub numbers : AreNumberWords rest
+  pub numbers : in_set rest
   pub are : words ≡ size_words size rest
+
+-- a class and a size of it, and then a seed and a count
+abbrev pub AreDrawWords : List (List ℕ) → Type 0
+AreDrawWords words = AreSizedWords AreNumberWords words
+
+-- a class and a size of it, and then a seed
+abbrev pub AreTripWords : List (List ℕ) → Type 0
+AreTripWords words = AreSizedWords AreSeedWords words
 
 -- the words that may stand behind a verb
 abbrev pub AreBehind : Verb → List (List ℕ) → Type 0
@@ -56,6 +71,7 @@ AreBehind verb.Check = IsOneOf IsClassWord
 AreBehind verb.Sample = AreSizeWords
 AreBehind verb.Unsample = IsOneOf IsClassWord
 AreBehind verb.Draw = AreDrawWords
+AreBehind verb.Trip = AreTripWords
 
 -- the verb, and these words behind it, spell the command
 pub record IsBehind (verb : Verb) (words : List (List ℕ)) (command : Command) : Type 0 where

@@ -1,5 +1,5 @@
 use Rattle.pm_cli.proofs.EndingLemmas.{flush_failed}
-use Rattle.pm_cli.proofs.engine.write_text.Goals as goal
+use Rattle.pm_cli.proofs.writing.write_text.Goals as goal
 
 pub returns-in-Err-flush : goal.returns-in-Err-flush
 returns-in-Err-flush g c =
