@@ -241,6 +241,13 @@ def tables(program):
     def unsampling(name):
         return (f"Samples, `unsample {name}`", lambda case: ["unsample", name], [sampled(case, name) for case in choices[name]])
 
+    def unread(title, verb, *last):
+        def of(name):
+            cases = [Case(case.label, case.edges, []) for case in choices[name]]
+            return (f"{title}, `{verb} {name}`", lambda case: [verb, name, case.label, str(DRAW_SEED), *last], cases)
+
+        return of
+
     return [
         ("Deep trees, `close eulerian`", lambda case: ["close", "eulerian"], deep),
         ("Wide trees, `close eulerian`", lambda case: ["close", "eulerian"], wide),
@@ -252,6 +259,8 @@ def tables(program):
         ("Maps, `dual`", lambda case: ["dual"], more),
         ("Maps, `open eulerian`", lambda case: ["open", "eulerian"], maps),
         *map(unsampling, CLASSES),
+        *map(unread("One record", "draw", "1"), CLASSES),
+        *map(unread("Trips", "trip"), CLASSES),
     ]
 
 
