@@ -42,6 +42,10 @@ on() {
 map=$'map 2 0\nv 0 1 2 3\nend\n'
 on $'tree lbl\n' close eulerian
 row 'a tree is closed' 0 "$map" ''
+on $'choices 0 2 0\n' sample general 1
+row 'a general map' 0 $'map 1 0\nv 0\nv 1\nend\nresidue 2 0 0\n' ''
+on $'map 2 0\nv 0 2\nv 1\nv 3\nend\n' dual
+row 'a dual' 0 "$map" ''
 on ''
 row 'no word' 2 '' $'planarmap: usage 0\n'
 on '' sampel quartic 2
@@ -77,6 +81,9 @@ row 'a closed input' 5 '' $'planarmap: read\n'
 "$program" draw quartic 1 7 2 >&- 2>"$folder/err"
 ended=$?
 row 'a closed output' 8 '' $'planarmap: write\n'
+"$program" trip bipartite 4:50 3 <&- >"$folder/out" 2>"$folder/err"
+ended=$?
+row 'a closed input of a command that reads nothing' 0 $'trip ok 52 100 50\n' ''
 if [ -c /dev/full ]; then
     "$program" draw quartic 1 7 2 >/dev/full 2>"$folder/err"
     ended=$?
