@@ -77,13 +77,13 @@ row 'an input that cannot be read' 5 '' $'planarmap: read\n'
 "$program" canon <&- >"$folder/out" 2>"$folder/err"
 ended=$?
 row 'a closed input' 5 '' $'planarmap: read\n'
+"$program" trip bipartite 4:50 3 <&- >"$folder/out" 2>"$folder/err"
+ended=$?
+row 'a closed input of a command that reads nothing' 0 $'trip ok 52 100 50\n' ''
 : >"$folder/out"
 "$program" draw quartic 1 7 2 >&- 2>"$folder/err"
 ended=$?
 row 'a closed output' 8 '' $'planarmap: write\n'
-"$program" trip bipartite 4:50 3 <&- >"$folder/out" 2>"$folder/err"
-ended=$?
-row 'a closed input of a command that reads nothing' 0 $'trip ok 52 100 50\n' ''
 if [ -c /dev/full ]; then
     "$program" draw quartic 1 7 2 >/dev/full 2>"$folder/err"
     ended=$?
