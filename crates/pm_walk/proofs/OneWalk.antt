@@ -3,6 +3,7 @@ use Rattle.std.proofs.Common.{◌≡◌, ℕ, zero, suc, ◌<◌, ◌≤◌, inl
 use Rattle.std.proofs.Math.Nat.{mod-eq_of_lt}
 use Rattle.std.proofs.lemmas.Bool.{cases_lt, cases_eq}
 use Rattle.pm_map.specs.Structure.{Structure, IsStructure, CarriesTo}
+use Rattle.pm_walk.specs.Laws.{WalkHasOneNumbering}
 use Rattle.pm_walk.specs.Walk.{first_of, is_cut, across, IsWalkedInOrder}
 use Rattle.pm_walk.proofs.Edges.{first_is_twin, first_is_own}
 
@@ -70,7 +71,6 @@ module _ (s t : Structure) (out t_out : ℕ → Bool) (rename : ℕ → ℕ) (st
     | inr ne ↦ fixed_up_to walked t_walked d (omega arith) k (omega arith)
   ]
 
-pub walked_is_one : (s t : Structure) (out t_out : ℕ → Bool) (rename : ℕ → ℕ) → IsStructure s → CarriesTo rename s t → IsWalkedInOrder s out → IsWalkedInOrder t t_out
-    → ((d : ℕ) → d < s.darts → t_out (rename d) ≡ out d) → (d : ℕ) → d < s.darts → rename d ≡ d
+pub walked_is_one : WalkHasOneNumbering
 walked_is_one s t out t_out rename structure carries walked t_walked same d l =
     fixed_up_to s t out t_out rename structure carries same walked t_walked d l d (omega arith)

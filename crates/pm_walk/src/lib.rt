@@ -4,7 +4,7 @@
 mod laws;
 mod passing;
 
-pub use laws::{walked_darts_are_led, walked_edges_are_nested};
+pub use laws::{walk_has_one_numbering, walked_darts_are_led, walked_edges_are_nested};
 pub use passing::{DartKind, Fate, Step, pass};
 
 #[cfg(test)]
