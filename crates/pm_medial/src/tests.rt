@@ -21,16 +21,21 @@ fn medial_of(alloc: Global, map: &RootedMap) -> Result<RootedMap, Fail> {
     }
     match medial(alloc, map) {
         Ok(found) => Ok(found),
-        Err(_) => Err("no medial map".into()),
+        Err(MedialRefusal::Memory) => Err("want of memory".into()),
+        Err(MedialRefusal::TooMany { .. }) => Err("too many edges".into()),
     }
 }
 
-// The unmedial, where the map has a dart.
-fn unmedial_of(alloc: Global, map: &RootedMap) -> Result<RootedMap, UnmedialRefusal> {
+// The unmedial, where the map has a dart, or the dart that the map is refused by.
+fn unmedial_of(alloc: Global, map: &RootedMap) -> Result<Result<RootedMap, u32>, Fail> {
     if map.sigma().is_empty() {
-        return Err(UnmedialRefusal::Memory);
+        return Err("no dart".into());
     }
-    unmedial(alloc, map)
+    match unmedial(alloc, map) {
+        Ok(found) => Ok(Ok(found)),
+        Err(UnmedialRefusal::Memory) => Err("want of memory".into()),
+        Err(UnmedialRefusal::NotQuartic { dart }) => Ok(Err(dart)),
+    }
 }
 
 #[test]
@@ -44,14 +49,13 @@ fn an_edge_and_two_loops(rt: HostRuntime) -> Result<(), Fail> {
         medial_of(rt.alloc(), &edge)?.sigma(),
         [1, 2, 3, 0].as_slice()
     );
-    let back = unmedial_of(rt.alloc(), &loops).ok().ok_or("no unmedial")?;
+    let back = unmedial_of(rt.alloc(), &loops)?.ok().ok_or("not quartic")?;
     assert_eq!(rt; back.sigma(), [0, 1].as_slice());
-    let back = unmedial_of(rt.alloc(), &crossed).ok().ok_or("no unmedial")?;
+    let back = unmedial_of(rt.alloc(), &crossed)?
+        .ok()
+        .ok_or("not quartic")?;
     assert_eq!(rt; back.sigma(), [1, 0].as_slice());
-    assert_eq!(rt;
-        unmedial_of(rt.alloc(), &circle).err(),
-        Some(UnmedialRefusal::NotQuartic { dart: 0 })
-    );
+    assert_eq!(rt; unmedial_of(rt.alloc(), &circle)?.err(), Some(0));
     assert_eq!(rt; dual(rt.alloc(), &edge)?.sigma(), [1, 0].as_slice());
     assert!(rt; dual(rt.alloc(), &nothing)?.sigma().is_empty());
     let colours = colour(rt.alloc(), &loops).ok().ok_or("no colours")?;
@@ -78,7 +82,7 @@ fn large_maps(rt: HostRuntime) -> Result<(), Fail> {
     let map = loops(rt.alloc(), 100_000)?;
     let there = medial_of(rt.alloc(), &map)?;
     assert_eq!(rt; there.edges(), 200_000);
-    let back = unmedial_of(rt.alloc(), &there).ok().ok_or("no unmedial")?;
+    let back = unmedial_of(rt.alloc(), &there)?.ok().ok_or("not quartic")?;
     assert!(rt; same(rt.alloc(), &map, &back)?);
     let many = loops(rt.alloc(), 2_097_153)?;
     if many.sigma().is_empty() {
@@ -117,7 +121,7 @@ fn leads_back(alloc: Global, map: &RootedMap) -> Result<bool, Fail> {
         return Ok(false);
     }
     let there = medial_of(alloc, map)?;
-    let back = unmedial_of(alloc, &there).ok().ok_or("no unmedial")?;
+    let back = unmedial_of(alloc, &there)?.ok().ok_or("not quartic")?;
     let again = medial_of(alloc, &back)?;
     let twice = dual(alloc, &dual(alloc, map)?)?;
     if canon(alloc, &back)?.sigma() != map.sigma()
