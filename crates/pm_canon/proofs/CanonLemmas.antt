@@ -2,6 +2,7 @@
 use Rattle.std.proofs.Common.{◌≡◌, ℕ, ◌+◌, ◌*◌, ◌/◌, ◌%◌, ◌<◌, ◌≤◌, inl, inr, cond, eqb, List, [], ◌∷◌, ◌++◌, map, length, get_or, slice_index, refl, sym, ◌∙◌, ap, subst, arith, length-append}
 use Rattle.std.proofs.lemmas.List.{get_or_append_left, append-nil, get_or-map, length-map}
 use Rattle.std.proofs.lemmas.Bool.{cases_eq, cond-true, cond-false, eq-eqb, ne_eqb}
+use Rattle.pm_perm.proofs.Contained.{is_at}
 use Rattle.pm_perm.specs.Permutation.{IsPermutationBelow}
 use Rattle.pm_perm.proofs.Permutations.{pigeonhole}
 use Rattle.pm_map.specs.Structure.{Structure, CarriesTo}
@@ -32,11 +33,11 @@ IsNamed-dart : (m : RotationSystem) (darts names : List ℕ) → IsNumbered m da
 IsNamed-dart m darts names n d h = from (each_edge_is_mentioned darts d (twin-twin d) (n.order.all d h)) where
   from : HasEdge (first_mentions darts) d → IsNamed (first_mentions darts) names d
   from (inl s) =
-      let within : s.0 < length (first_mentions darts) = s.1.within in
-      as_mention s.0 within s.1.here (ap (λ e. get_or names e 0) (sym s.1.here) ∙ n.named.mention s.0 within)
+      let within : s.0 < length (first_mentions darts) = s.1 in
+      as_mention s.0 within (is_at _ _ s) (ap (λ e. get_or names e 0) (sym (is_at _ _ s)) ∙ n.named.mention s.0 within)
   from (inr s) =
-      let within : s.0 < length (first_mentions darts) = s.1.within in
-      let here : twin (get_or (first_mentions darts) s.0 0) ≡ d = ap twin s.1.here ∙ twin-twin d in
+      let within : s.0 < length (first_mentions darts) = s.1 in
+      let here : twin (get_or (first_mentions darts) s.0 0) ≡ d = ap twin (is_at _ _ s) ∙ twin-twin d in
       as_twin s.0 within here (ap (λ e. get_or names e 0) (sym here) ∙ n.named.other s.0 within)
 
 -- the dart of a name
@@ -48,8 +49,8 @@ unfolding dart_named
 dart_named-below m darts names n name h =
     let place : name / 2 < length (first_mentions darts) = omega arith in
     let stands = first_mentions-stands darts (name / 2) place in
-    let at : get_or darts stands.0 0 ≡ get_or (first_mentions darts) (name / 2) 0 = stands.1.here in
-    let below : get_or (first_mentions darts) (name / 2) 0 < length m.sigma = subst (λ e. e < length m.sigma) at (n.order.once.stays stands.0 stands.1.within) in
+    let at : get_or darts stands.0 0 ≡ get_or (first_mentions darts) (name / 2) 0 = is_at _ _ stands in
+    let below : get_or (first_mentions darts) (name / 2) 0 < length m.sigma = subst (λ e. e < length m.sigma) at (n.order.once.stays stands.0 stands.1) in
     elim (cases_eq (name % 2) 0) [
       | inl e ↦ subst (λ e. e < length m.sigma) (sym (cond-true (eqb (name % 2) 0) _ _ (eq-eqb (name % 2) 0 e))) below
       | inr e ↦ subst (λ e. e < length m.sigma) (sym (cond-false (eqb (name % 2) 0) _ _ (ne_eqb (name % 2) 0 e))) (twin_below (length m.sigma) _ n.is_map.even below)

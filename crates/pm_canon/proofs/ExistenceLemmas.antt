@@ -1,23 +1,23 @@
 -- A rooted map has a meeting list and a canonical map: the steps of the walk, of the meeting and of the naming, made until
 -- nothing is left to do.
-use Rattle.std.proofs.Common.{◌≡◌, ℕ, zero, suc, ◌+◌, ◌%◌, ◌<◌, ◌≤◌, inl, inr, Bool, true, false, List, [], ◌∷◌, ◌++◌, map, length, get_or, set, take, replicate, slice_index, refl, sym, ◌∙◌, ap, subst, arith, length-set}
+use Rattle.std.proofs.Common.{◌≡◌, ℕ, zero, suc, ◌+◌, ◌%◌, ◌<◌, ◌≤◌, inl, inr, Bool, true, false, List, [], ◌∷◌, ◌++◌, map, length, get_or, set, take, replicate, slice_index, refl, sym, ◌∙◌, ap, subst, arith, length-set, Contains}
 use Rattle.std.specs.List.{range_with_len}
 use Rattle.std.proofs.Math.Seq.{take-suc}
 use Rattle.std.proofs.lemmas.List.{length_push, length-replicate, take_all}
 use Rattle.std.proofs.lemmas.List.FromFn.{get_or-map-range_with_len, length-map-range_with_len}
 use Rattle.std.proofs.lemmas.Bool.{cases_lt, cases_eq, cases_Bool, false≢true}
+use Rattle.pm_perm.proofs.Contained.{contains_none}
 use Rattle.pm_perm.specs.Permutation.{IsPermutationBelow}
 use Rattle.pm_perm.proofs.InverseLemmas.{place_of, place_of-of_value}
 use Rattle.pm_map.specs.Structure.{Structure, IsStructure, IsConnected}
 use Rattle.pm_map.specs.Rotation.{structure_of, twin}
-use Rattle.pm_map.specs.Meeting.{Stands}
 use Rattle.pm_canon.specs.MeetingOrder.{HasEachOnce, IsMeetingOrder}
 use Rattle.pm_canon.specs.steps.Kept.{IsKept, AppendsVertex, IsMeeting}
 use Rattle.pm_canon.specs.steps.Naming.{IsNaming, IsRenamed}
 use Rattle.pm_canon.specs.Laws.{EachMapHasCanonical, EachMapHasMeetingList}
 use Rattle.pm_canon.proofs.KeptLemmas.{HasEachOnce-length, HasEachOnce-fresh}
 use Rattle.pm_canon.proofs.WalkLemmas.{IsWalking, IsWalking-begins, IsWalking-step, IsWalking-below, IsWalking-once, IsWalking-kept, IsWalking-appended}
-use Rattle.pm_canon.proofs.MeetingLemmas.{none_stands, MarksDarts-none, IsKept-none, IsMeeting-root, IsMeeting-stands, IsMeeting-onward, IsMeeting-all, IsMeetingOrder-none}
+use Rattle.pm_canon.proofs.MeetingLemmas.{MarksDarts-none, IsKept-none, IsMeeting-root, IsMeeting-stands, IsMeeting-onward, IsMeeting-all, IsMeetingOrder-none}
 use Rattle.pm_canon.proofs.MentionLemmas.{twin_below}
 use Rattle.pm_canon.proofs.NamingLemmas.{IsNaming-none, IsNaming-seen, IsNaming-new}
 use Rattle.pm_canon.proofs.CanonLemmas.{IsNumbered, names_permute, renamed_is_canonical}
@@ -56,7 +56,7 @@ walk_ends s old start turns (suc left) marks darts dart more size w =
 
 -- the vertex of a dart that doesn't stand in the list
 vertex_exists : (s : Structure) (marks : List Bool) (old : List ℕ) (start : ℕ) → IsPermutationBelow s.darts s.next → length marks ≡ s.darts
-    → IsKept s marks old → start < s.darts → (Stands old start → ⊥) → HasVertex s start old
+    → IsKept s marks old → start < s.darts → (Contains old start → ⊥) → HasVertex s start old
 vertex_exists s marks old start turns size kept below fresh =
     walk_ends s old start turns s.darts (set marks start true) (old ++ start ∷ []) (s.next start) (omega (arith, length_push old start))
     (length-set marks start true ∙ size) (IsWalking-begins s old start marks kept below (omega arith) fresh)
@@ -83,7 +83,7 @@ meeting_ends s structure connected some (suc left) marks darts place more size m
                 meeting_ends s structure connected some left marks darts (place + 1) (omega arith) size
                 (IsMeeting-stands s marks darts place m within (m.kept.marking.stands other marked))
             | inr unmarked ↦
-                let fresh : Stands darts other → ⊥ = λ stands. false≢true (sym unmarked ∙ m.kept.marking.marked other stands) in
+                let fresh : Contains darts other → ⊥ = λ stands. false≢true (sym unmarked ∙ m.kept.marking.marked other stands) in
                 let v : HasVertex s other darts = vertex_exists s marks darts other structure.rotation size m.kept below fresh in
                 meeting_ends s structure connected some left v.marks v.darts (place + 1) (omega arith) v.size
                 (IsMeeting-onward s marks v.marks darts v.darts place m within fresh v.appended v.kept)
@@ -97,7 +97,7 @@ meeting_order_exists s structure connected =
       | inl some ↦
           let v : HasVertex s s.root [] =
           vertex_exists s (replicate s.darts false) [] s.root structure.rotation (length-replicate s.darts false) (IsKept-none s s.darts)
-          (structure.root_stays some) (none_stands s.root) in
+          (structure.root_stays some) (contains_none s.root) in
           meeting_ends s structure connected some (suc s.darts) v.marks v.darts 0 (omega arith) v.size
           (IsMeeting-root s v.marks [] v.darts refl v.appended v.kept)
       | inr none ↦ ([], IsMeetingOrder-none s (omega arith))
@@ -119,7 +119,7 @@ record HasNaming (bound : ℕ) (darts : List ℕ) : Type 0 where
   naming : IsNaming darts seen names name
 
 -- names with one dart more
-naming_step : (bound : ℕ) (darts : List ℕ) (d : ℕ) → bound % 2 ≡ 0 → d < bound → (Stands darts d → ⊥)
+naming_step : (bound : ℕ) (darts : List ℕ) (d : ℕ) → bound % 2 ≡ 0 → d < bound → (Contains darts d → ⊥)
     → HasNaming bound darts → HasNaming bound (darts ++ d ∷ [])
 naming_step bound darts d even below fresh n =
     let seen_size : length n.seen ≡ bound = n.seen_size in

@@ -1,11 +1,10 @@
 -- First mentions in a list with one dart more.
-use Rattle.std.proofs.Common.{◌≡◌, ℕ, zero, suc, ◌+◌, ◌%◌, ◌<◌, ◌≤◌, ◌⊎◌, inl, inr, Bool, true, false, cond, ◌==◌, List, [], ◌∷◌, ◌++◌, length, get_or, refl, ◌∙◌, ap, arith}
+use Rattle.std.proofs.Common.{◌≡◌, ℕ, zero, suc, ◌+◌, ◌%◌, ◌<◌, ◌≤◌, ◌⊎◌, inl, inr, Bool, true, false, cond, ◌==◌, List, [], ◌∷◌, ◌++◌, length, get_or, refl, ◌∙◌, ap, arith, Contains}
 use Rattle.std.specs.List.{list_any}
 use Rattle.std.proofs.lemmas.Bool.{or_cases, or_left, or_right, or_parts, or_from, false_from_ne_true}
+use Rattle.pm_perm.proofs.Contained.{contains_first, contains_later}
 use Rattle.pm_map.specs.Rotation.{twin}
 use Rattle.pm_map.specs.Canonical.{first_mentions_after, first_mentions}
-use Rattle.pm_map.specs.Meeting.{Stands}
-use Rattle.pm_map.proofs.StandsLemmas.{Stands-cons}
 use Rattle.pm_map.proofs.WholeMeeting.{test_from_stands, stands_from_test}
 use Rattle.pm_map.proofs.CanonicalNames.{first_mentions_after-seen, first_mentions_after-new}
 
@@ -52,25 +51,25 @@ push_new before (x ∷ darts) d early late =
     ap (λ l. cond (list_any (λ e. e == twin x) before) l (x ∷ l)) (push_new (x ∷ before) darts d (or_from (x == twin d) (list_any (λ e. e == twin d) before) parts.0 early) parts.1)
     ∙ cond_push (list_any (λ e. e == twin x) before) x d (first_mentions_after (x ∷ before) darts)
 
-pub first_mentions-seen : (darts : List ℕ) (d : ℕ) → Stands darts (twin d) → first_mentions (darts ++ d ∷ []) ≡ first_mentions darts
+pub first_mentions-seen : (darts : List ℕ) (d : ℕ) → Contains darts (twin d) → first_mentions (darts ++ d ∷ []) ≡ first_mentions darts
 first_mentions-seen darts d stands = push_seen [] darts d (inr (test_from_stands darts (twin d) stands))
 
-pub first_mentions-new : (darts : List ℕ) (d : ℕ) → (Stands darts (twin d) → ⊥) → first_mentions (darts ++ d ∷ []) ≡ first_mentions darts ++ d ∷ []
+pub first_mentions-new : (darts : List ℕ) (d : ℕ) → (Contains darts (twin d) → ⊥) → first_mentions (darts ++ d ∷ []) ≡ first_mentions darts ++ d ∷ []
 first_mentions-new darts d unseen = push_new [] darts d refl (false_from_ne_true (list_any (λ e. e == twin d) darts) (λ e. unseen (stands_from_test darts (twin d) e)))
 
 -- mentions are darts of the list
-head_stands : (x : ℕ) (darts later : List ℕ) (b : Bool) → ((k : ℕ) → k < length later → Stands darts (get_or later k 0))
-    → (k : ℕ) → k < length (cond b later (x ∷ later)) → Stands (x ∷ darts) (get_or (cond b later (x ∷ later)) k 0)
-head_stands x darts later true stand k h = Stands-cons x darts (get_or later k 0) (stand k h)
-head_stands x darts later false stand zero h = (0, record { within = omega arith; here = refl })
-head_stands x darts later false stand (suc k) h = Stands-cons x darts (get_or later k 0) (stand k (omega arith))
+head_stands : (x : ℕ) (darts later : List ℕ) (b : Bool) → ((k : ℕ) → k < length later → Contains darts (get_or later k 0))
+    → (k : ℕ) → k < length (cond b later (x ∷ later)) → Contains (x ∷ darts) (get_or (cond b later (x ∷ later)) k 0)
+head_stands x darts later true stand k h = contains_later x darts (get_or later k 0) (stand k h)
+head_stands x darts later false stand zero h = contains_first x x darts refl
+head_stands x darts later false stand (suc k) h = contains_later x darts (get_or later k 0) (stand k (omega arith))
 
-mention_stands : (before darts : List ℕ) (k : ℕ) → k < length (first_mentions_after before darts) → Stands darts (get_or (first_mentions_after before darts) k 0)
+mention_stands : (before darts : List ℕ) (k : ℕ) → k < length (first_mentions_after before darts) → Contains darts (get_or (first_mentions_after before darts) k 0)
 mention_stands before [] k h = absurd (omega arith)
 mention_stands before (x ∷ darts) k h =
     head_stands x darts (first_mentions_after (x ∷ before) darts) (list_any (λ e. e == twin x) before) (mention_stands (x ∷ before) darts) k h
 
-pub first_mentions-stands : (darts : List ℕ) (k : ℕ) → k < length (first_mentions darts) → Stands darts (get_or (first_mentions darts) k 0)
+pub first_mentions-stands : (darts : List ℕ) (k : ℕ) → k < length (first_mentions darts) → Contains darts (get_or (first_mentions darts) k 0)
 first_mentions-stands darts k h = mention_stands [] darts k h
 
 head_length : (b : Bool) (x : ℕ) (later : List ℕ) → length (cond b later (x ∷ later)) ≤ length later + 1

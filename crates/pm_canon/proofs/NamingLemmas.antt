@@ -1,10 +1,9 @@
 -- The names of the darts so far, with one mention more, and what the names do.
-use Rattle.std.proofs.Common.{◌≡◌, ◌≢◌, ℕ, ◌+◌, ◌*◌, ◌<◌, inl, inr, Bool, true, List, [], ◌∷◌, ◌++◌, length, get_or, set, refl, sym, ◌∙◌, ap, subst, arith, length-set}
+use Rattle.std.proofs.Common.{◌≡◌, ◌≢◌, ℕ, ◌+◌, ◌*◌, ◌<◌, inl, inr, Bool, true, List, [], ◌∷◌, ◌++◌, length, get_or, set, refl, sym, ◌∙◌, ap, subst, arith, length-set, Contains}
 use Rattle.std.proofs.lemmas.List.{get_or_append_left, get_or_push, get_or-set_same, get_or-set_other, length_push}
 use Rattle.std.proofs.lemmas.Bool.{cases_lt}
 use Rattle.pm_map.specs.Rotation.{twin}
 use Rattle.pm_map.specs.Canonical.{first_mentions}
-use Rattle.pm_map.specs.Meeting.{Stands}
 use Rattle.pm_canon.specs.steps.Kept.{MarksDarts}
 use Rattle.pm_canon.specs.steps.Naming.{IsNaming}
 use Rattle.pm_canon.proofs.KeptLemmas.{MarksDarts-push}
@@ -15,7 +14,7 @@ pub IsNaming-none : (seen : List Bool) (names : List ℕ) → MarksDarts seen []
 IsNaming-none seen names m = record { next = refl; marking = m; named = record { mention = λ k h. absurd (omega arith); other = λ k h. absurd (omega arith) } }
 
 -- a dart whose twin is seen
-pub IsNaming-seen : (darts : List ℕ) (seen : List Bool) (names : List ℕ) (name d : ℕ) → IsNaming darts seen names name → d < length seen → Stands darts (twin d)
+pub IsNaming-seen : (darts : List ℕ) (seen : List Bool) (names : List ℕ) (name d : ℕ) → IsNaming darts seen names name → d < length seen → Contains darts (twin d)
     → IsNaming (darts ++ d ∷ []) (set seen d true) names name
 IsNaming-seen darts seen names name d n within stands =
     let same : first_mentions darts ≡ first_mentions (darts ++ d ∷ []) = sym (first_mentions-seen darts d stands) in
@@ -42,7 +41,7 @@ two_names-twin names d name within =
 
 -- a dart that is a first mention
 pub IsNaming-new : (darts : List ℕ) (seen : List Bool) (names : List ℕ) (name d : ℕ) → IsNaming darts seen names name → d < length seen → d < length names → twin d < length names
-    → (Stands darts d → ⊥) → (Stands darts (twin d) → ⊥)
+    → (Contains darts d → ⊥) → (Contains darts (twin d) → ⊥)
     → IsNaming (darts ++ d ∷ []) (set seen d true) (set (set names d name) (twin d) (name + 1)) (name + 2)
 IsNaming-new darts seen names name d n in_seen within twin_within fresh unseen =
     let more : first_mentions (darts ++ d ∷ []) ≡ first_mentions darts ++ d ∷ [] = first_mentions-new darts d unseen in
@@ -51,10 +50,10 @@ IsNaming-new darts seen names name d n in_seen within twin_within fresh unseen =
     let size : length (mentions ++ d ∷ []) ≡ length mentions + 1 = length_push mentions d in
     let left : (k : ℕ) → k < length mentions → get_or (mentions ++ d ∷ []) k 0 ≡ get_or mentions k 0 = λ k h. get_or_append_left mentions (d ∷ []) 0 k h in
     let right : (k : ℕ) → k ≡ length mentions → get_or (mentions ++ d ∷ []) k 0 ≡ d = λ k h. get_or_push mentions d 0 k (sym h) in
-    let stands : (k : ℕ) → k < length mentions → Stands darts (get_or mentions k 0) = first_mentions-stands darts in
+    let stands : (k : ℕ) → k < length mentions → Contains darts (get_or mentions k 0) = first_mentions-stands darts in
     let next : name ≡ 2 * length mentions = n.next in
-    let not_d : (k : ℕ) → k < length mentions → get_or mentions k 0 ≢ d = λ k h e. fresh (subst (λ x. Stands darts x) e (stands k h)) in
-    let not_twin : (k : ℕ) → k < length mentions → get_or mentions k 0 ≢ twin d = λ k h e. unseen (subst (λ x. Stands darts x) e (stands k h)) in
+    let not_d : (k : ℕ) → k < length mentions → get_or mentions k 0 ≢ d = λ k h e. fresh (subst (λ x. Contains darts x) e (stands k h)) in
+    let not_twin : (k : ℕ) → k < length mentions → get_or mentions k 0 ≢ twin d = λ k h e. unseen (subst (λ x. Contains darts x) e (stands k h)) in
     let mention : (k : ℕ) → k < length (mentions ++ d ∷ []) → get_or new_names (get_or (mentions ++ d ∷ []) k 0) 0 ≡ 2 * k = λ k h. elim (cases_lt k (length mentions)) [
       | inl before ↦ ap (λ x. get_or new_names x 0) (left k before) ∙ two_names-elsewhere names d name (get_or mentions k 0) (not_d k before) (not_twin k before) ∙ n.named.mention k before
       | inr last ↦

@@ -1,11 +1,12 @@
 -- A walk around a vertex: the darts so far, and the dart that comes next.
-use Rattle.std.proofs.Common.{◌≡◌, ◌≢◌, ℕ, zero, suc, ◌+◌, ◌-◌, ◌<◌, inl, inr, Bool, true, List, [], ◌∷◌, ◌++◌, length, get_or, set, Some, refl, sym, ◌∙◌, ap, subst, arith, length-append, append_assoc, get_or-append-add}
+use Rattle.std.proofs.Common.{◌≡◌, ◌≢◌, ℕ, zero, suc, ◌+◌, ◌-◌, ◌<◌, inl, inr, Bool, true, List, [], ◌∷◌, ◌++◌, length, get_or, set, Some, refl, sym, ◌∙◌, ap, subst, arith, length-append, append_assoc, get_or-append-add, Contains}
 use Rattle.std.proofs.lemmas.List.{get_or_append_left, get_or_push, length_push}
 use Rattle.std.proofs.lemmas.Bool.{cases_lt}
+use Rattle.std.proofs.lemmas.List.Elements.{Contains-append_cases, Contains-append_left, Contains-append_right, Contains-get_or}
+use Rattle.pm_perm.proofs.Contained.{contains_at, is_at}
 use Rattle.pm_perm.specs.Permutation.{IsPermutationBelow}
 use Rattle.pm_map.specs.Structure.{Structure}
-use Rattle.pm_map.specs.Meeting.{Stands, IsVertexFrom}
-use Rattle.pm_map.proofs.StandsLemmas.{Stands-get_or, Stands-append_left, Stands-append_right, cases_Stands}
+use Rattle.pm_map.specs.Meeting.{IsVertexFrom}
 use Rattle.pm_canon.specs.MeetingOrder.{HasEachOnce}
 use Rattle.pm_canon.specs.steps.Kept.{MarksDarts, IsWhole, Precedes, IsKept, AppendsVertex}
 use Rattle.pm_canon.proofs.KeptLemmas.{HasEachOnce-push, MarksDarts-push}
@@ -60,7 +61,7 @@ IsWay-push s start way dart w more =
 
 -- the dart that comes next stands nowhere yet, unless the walk is back at the start
 pub IsWay-fresh : (s : Structure) (old : List ℕ) (start : ℕ) (way : List ℕ) (dart : ℕ) → IsPermutationBelow s.darts s.next → IsWhole s old
-    → HasEachOnce s.darts (old ++ way) → IsWay s start way dart → dart ≢ start → Stands (old ++ way) dart → ⊥
+    → HasEachOnce s.darts (old ++ way) → IsWay s start way dart → dart ≢ start → Contains (old ++ way) dart → ⊥
 IsWay-fresh s old start way dart perm whole once w more stands =
     let size : length (old ++ way) ≡ length old + length way = length-append old way in
     let some : 0 < length way = w.some in
@@ -72,15 +73,14 @@ IsWay-fresh s old start way dart perm whole once w more stands =
     λ j h e. once.injective j (length old + last) h (omega arith)
     (perm.injective (get_or (old ++ way) j 0) (get_or (old ++ way) (length old + last) 0) (below j h) (below (length old + last) (omega arith))
     (e ∙ sym w.leads ∙ ap s.next (sym (right last)))) in
-    elim (cases_Stands old way dart stands) [
+    elim (Contains-append_cases old way dart stands) [
       | inl in_old ↦
           let before = whole.back dart in_old in
-          let here = before.stands.1 in
-          let within : before.stands.0 < length old = here.within in
+          let within : before.stands.0 < length old = before.stands.1 in
           let place : before.stands.0 ≡ length old + last = same_place before.stands.0 (omega arith)
-          (ap s.next (left before.stands.0 within ∙ here.here) ∙ before.leads) in
+          (ap s.next (left before.stands.0 within ∙ is_at _ _ before.stands) ∙ before.leads) in
           omega arith
-      | inr in_way ↦ at_place in_way.0 in_way.1.within in_way.1.here same_place
+      | inr in_way ↦ at_place in_way.0 in_way.1 (is_at _ _ in_way) same_place
     ] where
       at_place : (place : ℕ) → place < length way → get_or way place 0 ≡ dart
           → ((j : ℕ) → j < length (old ++ way) → s.next (get_or (old ++ way) j 0) ≡ dart → j ≡ length old + (length way - 1)) → ⊥
@@ -94,22 +94,22 @@ IsWay-fresh s old start way dart perm whole once w more stands =
 -- a walk that is back has gone around a whole vertex
 IsWay-whole : (s : Structure) (old : List ℕ) (start : ℕ) (way : List ℕ) → IsWhole s old → IsWay s start way start → IsWhole s (old ++ way)
 IsWay-whole s old start way whole w = record {
-  onward = λ d stands. elim (cases_Stands old way d stands) [
-    | inl in_old ↦ Stands-append_left old way (s.next d) (whole.onward d in_old)
-    | inr in_way ↦ Stands-append_right old way (s.next d) (onward_way d in_way.0 in_way.1.within in_way.1.here)
+  onward = λ d stands. elim (Contains-append_cases old way d stands) [
+    | inl in_old ↦ Contains-append_left old way (s.next d) (whole.onward d in_old)
+    | inr in_way ↦ Contains-append_right old way (s.next d) (onward_way d in_way.0 in_way.1 (is_at _ _ in_way))
   ];
-  back = λ d stands. elim (cases_Stands old way d stands) [
-    | inl in_old ↦ let before = whole.back d in_old in record { before = before.before; stands = Stands-append_left old way before.before before.stands; leads = before.leads }
-    | inr in_way ↦ back_way d in_way.0 in_way.1.within in_way.1.here
+  back = λ d stands. elim (Contains-append_cases old way d stands) [
+    | inl in_old ↦ let before = whole.back d in_old in record { before = before.before; stands = Contains-append_left old way before.before before.stands; leads = before.leads }
+    | inr in_way ↦ back_way d in_way.0 in_way.1 (is_at _ _ in_way)
   ];
 } where
-  onward_way : (d place : ℕ) → place < length way → get_or way place 0 ≡ d → Stands way (s.next d)
+  onward_way : (d place : ℕ) → place < length way → get_or way place 0 ≡ d → Contains way (s.next d)
   onward_way d place within here = elim (cases_lt (suc place) (length way)) [
-    | inl more ↦ (suc place, record { within = more; here = w.goes place more ∙ ap s.next here })
+    | inl more ↦ (contains_at _ _ (suc place) more (w.goes place more ∙ ap s.next here))
     | inr last ↦
         let some : 0 < length way = w.some in
         let is_last : length way - 1 ≡ place = omega arith in
-        (0, record { within = some; here = w.begins ∙ sym w.leads ∙ ap s.next (ap (λ j. get_or way j 0) is_last ∙ here) })
+        (contains_at _ _ 0 some (w.begins ∙ sym w.leads ∙ ap s.next (ap (λ j. get_or way j 0) is_last ∙ here)))
   ]
 
   back_way : (d place : ℕ) → place < length way → get_or way place 0 ≡ d → Precedes s (old ++ way) d
@@ -117,12 +117,12 @@ IsWay-whole s old start way whole w = record {
       let some : 0 < length way = w.some in
       record {
         before = get_or way (length way - 1) 0;
-        stands = Stands-append_right old way (get_or way (length way - 1) 0) (Stands-get_or way (length way - 1) (omega arith));
+        stands = Contains-append_right old way (get_or way (length way - 1) 0) (Contains-get_or way (length way - 1) 0 (omega arith));
         leads = w.leads ∙ sym w.begins ∙ here;
       }
   back_way d (suc k) within here = record {
     before = get_or way k 0;
-    stands = Stands-append_right old way (get_or way k 0) (Stands-get_or way k (omega arith));
+    stands = Contains-append_right old way (get_or way k 0) (Contains-get_or way k 0 (omega arith));
     leads = sym (w.goes k within) ∙ here;
   }
 
@@ -132,7 +132,7 @@ IsWay-vertex s start (d ∷ way) w = record { begins = ap Some w.begins; goes = 
 
 -- the first dart of a walk
 pub IsWalking-begins : (s : Structure) (old : List ℕ) (start : ℕ) (marks : List Bool) → IsKept s marks old → start < s.darts → start < length marks
-    → (Stands old start → ⊥) → IsWalking s old start (set marks start true) (old ++ start ∷ []) (s.next start)
+    → (Contains old start → ⊥) → IsWalking s old start (set marks start true) (old ++ start ∷ []) (s.next start)
 IsWalking-begins s old start marks kept below within fresh = record {
   way = start ∷ [];
   order = refl;

@@ -1,7 +1,7 @@
 -- The meeting list as one list of darts.
-use Rattle.std.specs.Prelude.{◌≡◌, ℕ, ◌<◌, List, length, slice_index}
+use Rattle.std.specs.Prelude.{◌≡◌, ℕ, ◌<◌, List, length, slice_index, Contains}
 use Rattle.pm_map.specs.Structure.{Structure}
-use Rattle.pm_map.specs.Meeting.{Stands, IsMeetingList, darts_of}
+use Rattle.pm_map.specs.Meeting.{IsMeetingList, darts_of}
 
 -- the list has darts below the bound, and none of them twice
 pub record HasEachOnce (bound : ℕ) (darts : List ℕ) : Type 0 where
@@ -14,4 +14,4 @@ pub record IsMeetingOrder (s : Structure) (darts : List ℕ) : Type 0 where
   pub is_list : IsMeetingList s vertices
   pub order : darts ≡ darts_of vertices
   pub once : HasEachOnce s.darts darts
-  pub all : (d : ℕ) → d < s.darts → Stands darts d
+  pub all : (d : ℕ) → d < s.darts → Contains darts d

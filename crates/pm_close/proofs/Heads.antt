@@ -1,9 +1,10 @@
 -- Each vertex of a closure has the head of one node.
-use Rattle.std.proofs.Common.{◌≡◌, ◌≢◌, ℕ, zero, suc, ◌+◌, ◌-◌, ◌%◌, ◌<◌, ◌≤◌, ◌⊎◌, inl, inr, List, [], ◌∷◌, length, get_or, drop, refl, sym, ◌∙◌, ap, subst, arith}
+use Rattle.std.proofs.Common.{◌≡◌, ◌≢◌, ℕ, zero, suc, ◌+◌, ◌-◌, ◌%◌, ◌<◌, ◌≤◌, ◌⊎◌, inl, inr, List, [], ◌∷◌, length, get_or, drop, refl, sym, ◌∙◌, ap, subst, arith, Contains}
 use Rattle.std.specs.Prelude.{slice_index}
 use Rattle.std.proofs.lemmas.Bool.{cases_eq}
 use Rattle.std.proofs.lemmas.List.{get_or-map, length-map}
 use Rattle.std.proofs.Common.{get_or-drop}
+use Rattle.pm_perm.proofs.Contained.{contains_at, is_at}
 use Rattle.pm_perm.specs.Permutation.{IsPermutationBelow}
 use Rattle.pm_perm.specs.Cycles.{repeated, IsInCycle}
 use Rattle.pm_perm.proofs.SameCycle.{in_cycle-through, in_cycle-back}
@@ -15,7 +16,7 @@ use Rattle.pm_trees.proofs.RingPlaces.{mod_stays}
 use Rattle.pm_trees.proofs.Own.{other_here, other_above, open_above, close_above}
 use Rattle.pm_map.specs.Structure.{Structure}
 use Rattle.pm_map.specs.CycleSize.{IsCycleSize}
-use Rattle.pm_map.specs.Meeting.{IsVertexFrom, Stands}
+use Rattle.pm_map.specs.Meeting.{IsVertexFrom}
 use Rattle.pm_map.proofs.UniqueMeeting.{vertex_begins}
 use Rattle.pm_map.proofs.WholeMeeting.{vertex_holds_next}
 use Rattle.pm_close.specs.Closure.{IsAcross, from_open, from_close, from_letter, IsClosure}
@@ -88,8 +89,8 @@ vertex_length places s node vertex v =
       dropped (x ∷ xs) l = refl
 
 -- what is met from the first dart of a vertex stands in it
-vertex_all : (s : Structure) (d : ℕ) (vertex : List ℕ) → IsVertexFrom s d vertex → (k : ℕ) → Stands vertex (repeated s.next k d)
-vertex_all s d vertex is zero = (0, record { within = (vertex_begins s d vertex is).0; here = (vertex_begins s d vertex is).1 })
+vertex_all : (s : Structure) (d : ℕ) (vertex : List ℕ) → IsVertexFrom s d vertex → (k : ℕ) → Contains vertex (repeated s.next k d)
+vertex_all s d vertex is zero = (contains_at _ _ 0 ((vertex_begins s d vertex is).0) ((vertex_begins s d vertex is).1))
 vertex_all s d vertex is (suc k) = (vertex_holds_next s d vertex is).next_stands (repeated s.next k d) (vertex_all s d vertex is k)
 
 module _ (word : List ℕ) (order : IsInOrder word) (other : List ℕ) (bracketing : IsBracketing (contour word) other) (s : Structure) (is : IsClosure (contour word) s) where
@@ -169,9 +170,9 @@ module _ (word : List ℕ) (order : IsInOrder word) (other : List ℕ) (bracketi
     | inr opened ↦
         let v = node_vertices word s order is a a_node in
         let head = head_is a v.1.head v.1.is_head in
-        let stands : Stands v.0 (repeated s.next met.steps v.1.head) = vertex_all s v.1.head v.0 v.1.is_vertex met.steps in
+        let stands : Contains v.0 (repeated s.next met.steps v.1.head) = vertex_all s v.1.head v.0 v.1.is_vertex met.steps in
         let there : repeated s.next met.steps v.1.head ≡ slice_index other b = ap (λ (h : ℕ). repeated s.next met.steps h) head ∙ met.leads in
-        by_place a b v.0 v.1 head opened stands.0 stands.1.within (stands.1.here ∙ there)
+        by_place a b v.0 v.1 head opened stands.0 stands.1 ((is_at _ _ stands) ∙ there)
   ] where
     in_tail : (vertex : List ℕ) (k : ℕ) → slice_index (drop 1 vertex) k ≡ slice_index vertex (suc k)
     in_tail vertex k = let e : 1 + k ≡ suc k = omega arith in get_or-drop 1 vertex k 0 ∙ ap (λ (i : ℕ). get_or vertex i 0) e

@@ -1,20 +1,20 @@
 -- The search for the distances of the faces: the walk around a face, one step of the search, and what it ends with.
-use Rattle.std.proofs.Common.{◌≡◌, ℕ, suc, ◌+◌, ◌-◌, ◌*◌, ◌<◌, ◌≤◌, ◌%◌, inl, inr, Bool, true, false, cond, List, [], ◌∷◌, ◌++◌, length, get_or, set, sum_by, refl, sym, ◌∙◌, ap, subst, append_assoc, arith, length-set, length-append}
+use Rattle.std.proofs.Common.{◌≡◌, ℕ, suc, ◌+◌, ◌-◌, ◌*◌, ◌<◌, ◌≤◌, ◌%◌, inl, inr, Bool, true, false, cond, List, [], ◌∷◌, ◌++◌, length, get_or, set, sum_by, refl, sym, ◌∙◌, ap, subst, append_assoc, arith, length-set, length-append, Contains}
 use Rattle.std.proofs.lemmas.List.{get_or-set_same, get_or-set_other, get_or_append_left, get_or-append_right, append-nil}
 use Rattle.std.proofs.lemmas.List.Sums.{sum_by-cons}
 use Rattle.std.proofs.lemmas.Bool.{cases_eq, cases_lt, false≢true}
+use Rattle.std.proofs.lemmas.List.Elements.{Contains-get_or, Contains-push_cases}
+use Rattle.pm_perm.proofs.Contained.{is_at}
 use Rattle.pm_perm.specs.Permutation.{IsPermutationBelow, IsPermutationList}
 use Rattle.pm_perm.proofs.SameCycle.{in_cycle-back}
 use Rattle.pm_map.specs.Structure.{Structure, IsStructure, IsConnected, IsClosedSet}
 use Rattle.pm_map.specs.Rotation.{RotationSystem, structure_of, twin}
-use Rattle.pm_map.specs.Meeting.{Stands}
 use Rattle.pm_map.specs.steps.Marks.{IsMarked, NoneMarked}
 use Rattle.pm_map.specs.Rotation.{face_step}
 use Rattle.pm_map.specs.FaceDistance.{AreInOneFace, AreFaceLevels}
 use Rattle.pm_map.proofs.CarriedStructure.{face_permutes}
 use Rattle.pm_map.proofs.DistanceLemmas.{face_below, face_back, levels_are_distances}
 use Rattle.pm_map.proofs.SearchLemmas.{WalksFace-begins, WalksFace-step, MarksFace-start, in_cycle-marked}
-use Rattle.pm_map.proofs.StandsLemmas.{Stands-get_or, cases_push}
 use Rattle.pm_distances.specs.Distances.{AreFaceDistances}
 use Rattle.pm_distances.specs.steps.DistanceSearch.{WritesFace, FindsFace, IsListed, FindsWhole, IsFoundFrom, FindsFromRoot, IsRising, IsFinding}
 
@@ -28,7 +28,7 @@ WritesFace-begins sigma start distance marks distances darts within = record {
   written = λ d is. inl is;
   added = [];
   order = sym (append-nil darts);
-  level = λ d stands. absurd (let h : stands.0 < 0 = stands.1.within in omega arith);
+  level = λ d stands. absurd (let h : stands.0 < 0 = stands.1 in omega arith);
 }
 
 -- a walk goes on from a dart that isn't marked
@@ -58,7 +58,7 @@ WritesFace-step sigma start distance dart marks distances darts marks1 distances
       order = ap (λ l. l ++ dart ∷ []) w.order ∙ append_assoc darts w.added (dart ∷ []);
       level = λ d stands. elim (cases_eq d dart) [
         | inl at ↦ ap (λ x. get_or (set distances1 dart distance) x 0) at ∙ here
-        | inr apart ↦ elim (cases_push w.added dart d stands) [
+        | inr apart ↦ elim (Contains-push_cases w.added dart d stands) [
           | inl before ↦ other d apart ∙ w.level d before
           | inr last ↦ absurd (apart (sym last))
         ]
@@ -82,8 +82,8 @@ FindsFace-at_start sigma start distance marks distances darts marks1 distances1 
 
 IsListed-none : (s : Structure) (marks : List Bool) → NoneMarked marks → IsListed s marks []
 IsListed-none s marks none = record {
-  below = λ d stands. absurd (let h : stands.0 < 0 = stands.1.within in omega arith);
-  marked = λ d stands. absurd (let h : stands.0 < 0 = stands.1.within in omega arith);
+  below = λ d stands. absurd (let h : stands.0 < 0 = stands.1 in omega arith);
+  marked = λ d stands. absurd (let h : stands.0 < 0 = stands.1 in omega arith);
   stands = λ d is. absurd (false≢true (sym (none d) ∙ is));
 }
 
@@ -187,7 +187,7 @@ record LevelsAt (distance : ℕ) (distances darts distances1 darts1 : List ℕ) 
   new : (k : ℕ) → length darts ≤ k → k < length darts1 → get_or distances1 (get_or darts1 k 0) 0 ≡ distance
 
 FindsFace-levels : (sigma : List ℕ) (start distance : ℕ) (marks : List Bool) (distances darts : List ℕ) (marks1 : List Bool) (distances1 darts1 : List ℕ)
-    → ((d : ℕ) → Stands darts d → IsMarked marks d) → FindsFace sigma start distance marks distances darts marks1 distances1 darts1 → LevelsAt distance distances darts distances1 darts1
+    → ((d : ℕ) → Contains darts d → IsMarked marks d) → FindsFace sigma start distance marks distances darts marks1 distances1 darts1 → LevelsAt distance distances darts distances1 darts1
 FindsFace-levels sigma start distance marks distances darts marks1 distances1 darts1 marked f =
     let w = f.writes in
     let size : length darts1 ≡ length darts + length w.added = ap length w.order ∙ length-append darts w.added in
@@ -195,10 +195,10 @@ FindsFace-levels sigma start distance marks distances darts marks1 distances1 da
     record {
       longer = omega (arith, size);
       same = same;
-      old = λ k h. ap (λ d. get_or distances1 d 0) (same k h) ∙ w.kept (get_or darts k 0) (marked (get_or darts k 0) (Stands-get_or darts k h));
+      old = λ k h. ap (λ d. get_or distances1 d 0) (same k h) ∙ w.kept (get_or darts k 0) (marked (get_or darts k 0) (Contains-get_or darts k 0 h));
       new = λ k past h.
           let here : get_or darts1 k 0 ≡ get_or w.added (k - length darts) 0 = ap (λ l. get_or l k 0) w.order ∙ get_or-append_right darts w.added (length darts) k 0 refl past in
-          ap (λ d. get_or distances1 d 0) here ∙ w.level (get_or w.added (k - length darts) 0) (Stands-get_or w.added (k - length darts) (omega (arith, size, past, h)));
+          ap (λ d. get_or distances1 d 0) here ∙ w.level (get_or w.added (k - length darts) 0) (Contains-get_or w.added (k - length darts) 0 (omega (arith, size, past, h)));
     }
 
 IsRising-root : (distances darts1 distances1 : List ℕ) → LevelsAt 0 distances [] distances1 darts1 → IsRising distances1 darts1 0
@@ -277,8 +277,8 @@ pub IsFinding-found : (map : RotationSystem) (marks : List Bool) (distances dart
     → IsMarked marks (twin (get_or darts place 0)) → IsFinding map marks distances darts (place + 1)
 IsFinding-found map marks distances darts place i within is_found =
     let other : ℕ = twin (get_or darts place 0) in
-    let stands : Stands darts other = i.listed.stands other is_found in
-    let near : get_or distances (get_or darts stands.0 0) 0 ≤ suc (get_or distances (get_or darts place 0) 0) = i.rising.near stands.0 stands.1.within within in
+    let stands : Contains darts other = i.listed.stands other is_found in
+    let near : get_or distances (get_or darts stands.0 0) 0 ≤ suc (get_or distances (get_or darts place 0) 0) = i.rising.near stands.0 stands.1 within in
     record {
       marks_size = i.marks_size;
       distances_size = i.distances_size;
@@ -290,7 +290,7 @@ IsFinding-found map marks distances darts place i within is_found =
       rising = IsRising-onward distances darts place i.rising;
       found = up_to (λ k. IsMarked marks (twin (get_or darts k 0))) place i.found is_found;
       across = up_to (λ k. get_or distances (twin (get_or darts k 0)) 0 ≤ suc (get_or distances (get_or darts k 0) 0)) place i.across
-          (subst (λ d. get_or distances d 0 ≤ suc (get_or distances (get_or darts place 0) 0)) stands.1.here near);
+          (subst (λ d. get_or distances d 0 ≤ suc (get_or distances (get_or darts place 0) 0)) (is_at _ _ stands) near);
     }
 
 -- the face across the edge is found now
@@ -300,7 +300,7 @@ pub IsFinding-more : (map : RotationSystem) (distance : ℕ) (marks : List Bool)
     → FindsFace map.sigma (twin (get_or darts place 0)) distance marks distances darts marks1 distances1 darts1 → IsFinding map marks1 distances1 darts1 (place + 1)
 IsFinding-more map distance marks distances darts marks1 distances1 darts1 place structure i within unmarked further f =
     let from : ℕ = get_or darts place 0 in
-    let stands : Stands darts from = Stands-get_or darts place within in
+    let stands : Contains darts from = Contains-get_or darts place 0 within in
     let below : from < length map.sigma = i.listed.below from stands in
     let at : LevelsAt distance distances darts distances1 darts1 = FindsFace-levels map.sigma (twin from) distance marks distances darts marks1 distances1 darts1 i.listed.marked f in
     let start : IsMarked marks1 (twin from) = FindsFace-start map.sigma (twin from) distance marks distances darts marks1 distances1 darts1 f in
@@ -333,8 +333,8 @@ IsFinding-all map marks distances darts place structure connected i ends =
     let s : Structure = structure_of map in
     let level : ℕ → ℕ = λ d. get_or distances d 0 in
     let under_twin : (d : ℕ) → d < s.darts → IsMarked marks d → IsMarked marks (twin d) = λ d h is.
-    (let stands : Stands darts d = i.listed.stands d is in
-    subst (λ e. IsMarked marks (twin e)) stands.1.here (i.found stands.0 (omega (arith, stands.1.within, ends)))) in
+    (let stands : Contains darts d = i.listed.stands d is in
+    subst (λ e. IsMarked marks (twin e)) (is_at _ _ stands) (i.found stands.0 (omega (arith, stands.1, ends)))) in
     let closed : IsClosedSet s (λ d. get_or marks d false) = record {
       under_next = λ d h is. subst (λ x. IsMarked marks (s.next x)) (structure.twin_back d h) (i.whole.onward (twin d) (structure.twin_stays d h) (under_twin d h is));
       under_twin = under_twin;
@@ -345,8 +345,8 @@ IsFinding-all map marks distances darts place structure connected i ends =
       root = λ some. i.from_root.at_root;
       lowest = λ d h low. i.from_root.lowest d (all d h) low;
       across = λ d h.
-          let stands : Stands darts d = i.listed.stands d (all d h) in
-          subst (λ e. level (twin e) ≤ suc (level e)) stands.1.here (i.across stands.0 (omega (arith, stands.1.within, ends)));
+          let stands : Contains darts d = i.listed.stands d (all d h) in
+          subst (λ e. level (twin e) ≤ suc (level e)) (is_at _ _ stands) (i.across stands.0 (omega (arith, stands.1, ends)));
       nearer = λ d h high. let from : IsFoundFrom s marks distances d = i.from_root.nearer d h (all d h) high in (from.dart, from.within, from.one_face, from.nearer);
     } in
     record { as_long = i.distances_size; each = (levels_are_distances s level structure).0 levels }

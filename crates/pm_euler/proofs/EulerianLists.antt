@@ -1,10 +1,10 @@
 -- A map with even degrees and a residue come from no two lists of choices.
-use Rattle.std.proofs.Common.{◌≡◌, ℕ, suc, ◌+◌, ◌<◌, List, [], ◌∷◌, ◌++◌, length, map, All, take, drop, get_or, ap, ap₂, sym, ◌∙◌, subst, arith}
+use Rattle.std.proofs.Common.{◌≡◌, ℕ, suc, ◌+◌, ◌<◌, List, [], ◌∷◌, ◌++◌, length, map, All, take, drop, get_or, ap, ap₂, sym, ◌∙◌, subst, arith, Contains}
 use Rattle.std.specs.Prelude.{slice_index, slice_index_or}
 use Rattle.std.proofs.lemmas.List.{get_or-map, ext_get_or}
+use Rattle.pm_perm.proofs.Contained.{contains_at, is_at}
 use Rattle.pm_lehmer.specs.Lehmer.{code_of}
 use Rattle.pm_lehmer.proofs.Arranged.{length-arrangement}
-use Rattle.pm_perm.specs.Lists.{Stands}
 use Rattle.pm_perm.specs.Permutation.{IsPermutationList}
 use Rattle.pm_perm.proofs.Permutations.{reached}
 use Rattle.pm_trees.specs.BudPattern.{IsHalfDegree}
@@ -30,26 +30,26 @@ use Rattle.pm_planting.proofs.SideReading.{one_reading, halves_in}
 use Rattle.pm_planting.proofs.SideTexts.{same_push}
 
 -- the rank of an object that stands among objects of the same kinds
-same_rank : (halves ranks others objects : List ℕ) (object : ℕ) → kinds_of halves ranks objects ≡ kinds_of halves others objects → Stands objects object → 0 < arity_of halves object
+same_rank : (halves ranks others objects : List ℕ) (object : ℕ) → kinds_of halves ranks objects ≡ kinds_of halves others objects → Contains objects object → 0 < arity_of halves object
     → slice_index_or ranks object 0 ≡ slice_index_or others object 0
 same_rank halves ranks others objects object same stands some =
-    let here = stands.1.here in
+    let here = (is_at _ _ stands) in
     let at : (some_ranks : List ℕ) → get_or (kinds_of halves some_ranks objects) stands.0 (0, 0) ≡ kind_of halves some_ranks object =
-    λ some_ranks. get_or-map (kind_of halves some_ranks) objects stands.0 0 (0, 0) stands.1.within ∙ ap (kind_of halves some_ranks) here in
+    λ some_ranks. get_or-map (kind_of halves some_ranks) objects stands.0 0 (0, 0) stands.1 ∙ ap (kind_of halves some_ranks) here in
     let kinds : kind_of halves ranks object ≡ kind_of halves others object = sym (at ranks) ∙ ap (λ (ks : List (ℕ × ℕ)). get_or ks stands.0 (0, 0)) same ∙ at others in
     ap (λ (k : ℕ × ℕ). k.1) (sym (kind_node halves ranks object some) ∙ kinds ∙ kind_node halves others object some)
 
-same_ranks : (halves ranks others objects : List ℕ) → length ranks ≡ length halves → length others ≡ length halves → All IsHalfDegree halves → ((object : ℕ) → object < length halves → Stands objects object)
+same_ranks : (halves ranks others objects : List ℕ) → length ranks ≡ length halves → length others ≡ length halves → All IsHalfDegree halves → ((object : ℕ) → object < length halves → Contains objects object)
     → kinds_of halves ranks objects ≡ kinds_of halves others objects → ranks ≡ others
 same_ranks halves ranks others objects long other_long are stand same =
     ext_get_or 0 ranks others (long ∙ sym other_long)
     (λ object less. let inside : object < length halves = omega (arith, less, long) in same_rank halves ranks others objects object same (stand object inside) (are object 0 inside).some)
 
 -- an object stands wherever all of them are
-pub object_stands : (start object : ℕ) (arrangement objects : List ℕ) → IsPermutationList arrangement → objects ≡ turned start arrangement → object < length arrangement → Stands objects object
+pub object_stands : (start object : ℕ) (arrangement objects : List ℕ) → IsPermutationList arrangement → objects ≡ turned start arrangement → object < length arrangement → Contains objects object
 object_stands start object arrangement objects is turned_is less =
     let at = reached (slice_index arrangement) (length arrangement) object is less in
-    subst (λ (os : List ℕ). Stands os object) (sym turned_is) (stands_turned start arrangement object (at.from, record { within = at.below; here = at.value }))
+    subst (λ (os : List ℕ). Contains os object) (sym turned_is) (stands_turned start arrangement object (contains_at _ _ at.from at.below at.value))
 
 -- the residue tells the start, the codes by degree and the old plant
 record IsSameResidue (start second : ℕ) (codes others : List ℕ) (old_plant other : ℕ) : Type 0 where

@@ -1,16 +1,16 @@
 -- Two canonical maps that are the same are equal: the names follow from the order in which the edges are met.
-use Rattle.std.proofs.Common.{◌≡◌, ℕ, zero, suc, ◌*◌, ◌<◌, true, false, ◌||◌, ◌==◌, cond, List, [], ◌∷◌, map, length, slice_index, refl, sym, ap, ap₂, ◌∙◌, subst, ◌⊎◌, inl, inr, ext_get_or, eq-eqb, ne_eqb, arith}
+use Rattle.std.proofs.Common.{◌≡◌, ℕ, zero, suc, ◌*◌, ◌<◌, true, false, ◌||◌, ◌==◌, cond, List, [], ◌∷◌, map, length, slice_index, refl, sym, ap, ap₂, ◌∙◌, subst, ◌⊎◌, inl, inr, ext_get_or, eq-eqb, ne_eqb, arith, Contains}
 use Rattle.std.specs.List.{list_any}
 use Rattle.std.proofs.lemmas.Bool.{cases_Bool, cases_eq}
 use Rattle.std.proofs.lemmas.List.{length-map, get_or-map}
+use Rattle.pm_perm.proofs.Contained.{contains_cases, contains_first, contains_later, contains_none, is_at}
 use Rattle.pm_perm.specs.Permutation.{IsPermutationBelow}
 use Rattle.pm_map.specs.Structure.{Structure, IsStructure, CarriesTo, Same}
-use Rattle.pm_map.specs.Meeting.{StandsAt, Stands, darts_of, IsMeetingList, no_dart, complete}
+use Rattle.pm_map.specs.Meeting.{darts_of, IsMeetingList, no_dart, complete}
 use Rattle.pm_map.specs.Rotation.{RotationSystem, structure_of, twin, IsRootedMap}
 use Rattle.pm_map.specs.Canonical.{first_mentions_after, first_mentions, IsCanonical, IsCanonicalOf}
 use Rattle.pm_map.proofs.UniqueMeeting.{meeting_list_is_unique}
 use Rattle.pm_map.proofs.CarriedMeeting.{AreBelow, meets_below, darts_of-map, meeting_list_carried}
-use Rattle.pm_map.proofs.StandsLemmas.{Stands-cons}
 use Rattle.pm_map.proofs.WholeMeeting.{stands_from_test, meeting_list_is_whole}
 
 -- the meeting list's darts are darts of the structure
@@ -80,35 +80,23 @@ first_mentions-map bound f darts keeps all = first_mentions_after-map bound f []
 
 -- the dart or its twin stands in the list
 abbrev pub HasEdge : List ℕ → ℕ → Type 0
-HasEdge darts d = Stands darts d ⊎ Stands darts (twin d)
-
-stands_first : (x : ℕ) (xs : List ℕ) (d : ℕ) → x ≡ d → Stands (x ∷ xs) d
-stands_first x xs d is = (0, record { within = omega arith; here = is })
-
-stands_cases : (x : ℕ) (xs : List ℕ) (d : ℕ) → Stands (x ∷ xs) d → (x ≡ d) ⊎ Stands xs d
-stands_cases x xs d stands = cases_at stands.0 stands.1 where
-  cases_at : (place : ℕ) → StandsAt (x ∷ xs) place d → (x ≡ d) ⊎ Stands xs d
-  cases_at zero at = inl at.here
-  cases_at (suc k) at = inr (k, record { within = (let within = at.within in omega arith); here = at.here })
-
-stands_nowhere : (d : ℕ) → Stands [] d → ⊥
-stands_nowhere d stands = let within : stands.0 < 0 = (stands.1).within in omega arith
+HasEdge darts d = Contains darts d ⊎ Contains darts (twin d)
 
 HasEdge-cons : (x : ℕ) (xs : List ℕ) (d : ℕ) → HasEdge xs d → HasEdge (x ∷ xs) d
-HasEdge-cons x xs d has = elim has [ inl dart ↦ inl (Stands-cons x xs d dart) | inr other ↦ inr (Stands-cons x xs (twin d) other) ]
+HasEdge-cons x xs d has = elim has [ inl dart ↦ inl (contains_later x xs d dart) | inr other ↦ inr (contains_later x xs (twin d) other) ]
 
 mention_here : (before : List ℕ) (x : ℕ) (darts : List ℕ) (d : ℕ) → x ≡ d → HasEdge (first_mentions_after before (x ∷ darts)) d ⊎ HasEdge before d
 mention_here before x darts d is =
     elim (cases_Bool (list_any (λ e. e == twin x) before)) [
-      | inl seen ↦ inr (inr (subst (λ y. Stands before (twin y)) is (stands_from_test before (twin x) seen)))
-      | inr new ↦ inl (inl (subst (λ ms. Stands ms d) (sym (first_mentions_after-new before x darts new)) (stands_first x (first_mentions_after (x ∷ before) darts) d is)))
+      | inl seen ↦ inr (inr (subst (λ y. Contains before (twin y)) is (stands_from_test before (twin x) seen)))
+      | inr new ↦ inl (inl (subst (λ ms. Contains ms d) (sym (first_mentions_after-new before x darts new)) (contains_first x d (first_mentions_after (x ∷ before) darts) is)))
     ]
 
 mention_of_twin : (before : List ℕ) (x : ℕ) (darts : List ℕ) (d : ℕ) → x ≡ twin d → twin (twin d) ≡ d → HasEdge (first_mentions_after before (x ∷ darts)) d ⊎ HasEdge before d
 mention_of_twin before x darts d is back =
     elim (cases_Bool (list_any (λ e. e == twin x) before)) [
-      | inl seen ↦ inr (inl (subst (Stands before) (ap twin is ∙ back) (stands_from_test before (twin x) seen)))
-      | inr new ↦ inl (inr (subst (λ ms. Stands ms (twin d)) (sym (first_mentions_after-new before x darts new)) (stands_first x (first_mentions_after (x ∷ before) darts) (twin d) is)))
+      | inl seen ↦ inr (inl (subst (Contains before) (ap twin is ∙ back) (stands_from_test before (twin x) seen)))
+      | inr new ↦ inl (inr (subst (λ ms. Contains ms (twin d)) (sym (first_mentions_after-new before x darts new)) (contains_first x (twin d) (first_mentions_after (x ∷ before) darts) is)))
     ]
 
 mention_later : (before : List ℕ) (x : ℕ) (darts : List ℕ) (d : ℕ) → HasEdge (first_mentions_after (x ∷ before) darts) d → HasEdge (first_mentions_after before (x ∷ darts)) d
@@ -122,21 +110,21 @@ mention_before : (before : List ℕ) (x : ℕ) (darts : List ℕ) (d : ℕ) → 
 mention_before before x darts d back has =
     elim has [
       | inl dart ↦
-          elim (stands_cases x before d dart) [
+          elim (contains_cases x before d dart) [
             | inl here ↦ mention_here before x darts d here
             | inr earlier ↦ inr (inl earlier)
           ]
       | inr other ↦
-          elim (stands_cases x before (twin d) other) [
+          elim (contains_cases x before (twin d) other) [
             | inl here ↦ mention_of_twin before x darts d here back
             | inr earlier ↦ inr (inr earlier)
           ]
     ]
 
-mention_after : (before darts : List ℕ) (d : ℕ) → twin (twin d) ≡ d → Stands darts d → HasEdge (first_mentions_after before darts) d ⊎ HasEdge before d
-mention_after before [] d back stands = absurd (stands_nowhere d stands)
+mention_after : (before darts : List ℕ) (d : ℕ) → twin (twin d) ≡ d → Contains darts d → HasEdge (first_mentions_after before darts) d ⊎ HasEdge before d
+mention_after before [] d back stands = absurd (contains_none d stands)
 mention_after before (x ∷ darts) d back stands =
-    elim (stands_cases x darts d stands) [
+    elim (contains_cases x darts d stands) [
       | inl here ↦ mention_here before x darts d here
       | inr later ↦
           elim (mention_after (x ∷ before) darts d back later) [
@@ -146,11 +134,11 @@ mention_after before (x ∷ darts) d back stands =
     ]
 
 -- the edge of each dart that is met is mentioned
-pub each_edge_is_mentioned : (darts : List ℕ) (d : ℕ) → twin (twin d) ≡ d → Stands darts d → HasEdge (first_mentions darts) d
+pub each_edge_is_mentioned : (darts : List ℕ) (d : ℕ) → twin (twin d) ≡ d → Contains darts d → HasEdge (first_mentions darts) d
 each_edge_is_mentioned darts d back stands =
     elim (mention_after [] darts d back stands) [
       | inl mentioned ↦ mentioned
-      | inr before ↦ elim before [ inl dart ↦ absurd (stands_nowhere d dart) | inr other ↦ absurd (stands_nowhere (twin d) other) ]
+      | inr before ↦ elim before [ inl dart ↦ absurd (contains_none d dart) | inr other ↦ absurd (contains_none (twin d) other) ]
     ]
 
 -- what carries one map to another keeps twins
@@ -158,28 +146,28 @@ pub carries_keeps_twins : (f : ℕ → ℕ) (m n : RotationSystem) → IsStructu
 carries_keeps_twins f m n structure carries = record { renumbers = carries.renumbers; twin_stays = structure.twin_stays; twins = carries.twin }
 
 -- what carries one canonical map to another leaves each first mention as it is
-pub mention_is_fixed : (f : ℕ → ℕ) (m n : RotationSystem) → IsStructure (structure_of m) → CarriesTo f (structure_of m) (structure_of n) → (cm : IsCanonical m) → IsCanonical n → (d : ℕ) → Stands (first_mentions (darts_of cm.vertices)) d → f d ≡ d
+pub mention_is_fixed : (f : ℕ → ℕ) (m n : RotationSystem) → IsStructure (structure_of m) → CarriesTo f (structure_of m) (structure_of n) → (cm : IsCanonical m) → IsCanonical n → (d : ℕ) → Contains (first_mentions (darts_of cm.vertices)) d → f d ≡ d
 mention_is_fixed f m n structure carries cm cn d stands =
     let met : cn.vertices ≡ map (map f) cm.vertices =
     meeting_list_is_unique (structure_of n) cn.vertices (map (map f) cm.vertices) cn.met (meeting_list_carried f (structure_of m) (structure_of n) cm.vertices carries structure cm.met) in
     let mentions : first_mentions (darts_of cn.vertices) ≡ map f (first_mentions (darts_of cm.vertices)) =
     ap (λ vs. first_mentions (darts_of vs)) met ∙ ap first_mentions (darts_of-map f cm.vertices)
     ∙ first_mentions-map (length m.sigma) f (darts_of cm.vertices) (carries_keeps_twins f m n structure carries) (meeting_list_below (structure_of m) cm.vertices structure cm.met) in
-    let within : stands.0 < length (first_mentions (darts_of cm.vertices)) = (stands.1).within in
+    let within : stands.0 < length (first_mentions (darts_of cm.vertices)) = stands.1 in
     let size : length (first_mentions (darts_of cn.vertices)) ≡ length (first_mentions (darts_of cm.vertices)) =
     ap length mentions ∙ length-map (first_mentions (darts_of cm.vertices)) f in
     let there : slice_index (first_mentions (darts_of cn.vertices)) stands.0 ≡ 2 * stands.0 = cn.named stands.0 (subst (λ k. stands.0 < k) (sym size) within) in
     let here : slice_index (first_mentions (darts_of cm.vertices)) stands.0 ≡ 2 * stands.0 = cm.named stands.0 within in
     let moved : slice_index (first_mentions (darts_of cn.vertices)) stands.0 ≡ f (slice_index (first_mentions (darts_of cm.vertices)) stands.0) =
     ap (λ ms. slice_index ms stands.0) mentions ∙ get_or-map f (first_mentions (darts_of cm.vertices)) stands.0 0 0 within in
-    ap f (sym (stands.1).here) ∙ sym moved ∙ there ∙ sym here ∙ (stands.1).here
+    ap f (sym (is_at _ _ stands)) ∙ sym moved ∙ there ∙ sym here ∙ (is_at _ _ stands)
 
 -- and so each dart
 pub dart_is_fixed : (f : ℕ → ℕ) (m n : RotationSystem) → IsRootedMap m → CarriesTo f (structure_of m) (structure_of n) → IsCanonical m → IsCanonical n → (d : ℕ) → d < length m.sigma → f d ≡ d
 dart_is_fixed f m n valid carries cm cn d h =
     let structure : IsStructure (structure_of m) = valid.structure in
     let back : twin (twin d) ≡ d = structure.twin_back d h in
-    let stands : Stands (darts_of cm.vertices) d = meeting_list_is_whole (structure_of m) cm.vertices valid.connected cm.met d h in
+    let stands : Contains (darts_of cm.vertices) d = meeting_list_is_whole (structure_of m) cm.vertices valid.connected cm.met d h in
     elim (each_edge_is_mentioned (darts_of cm.vertices) d back stands) [
       | inl dart ↦ mention_is_fixed f m n structure carries cm cn d dart
       | inr other ↦

@@ -1,11 +1,12 @@
 -- A renumbering carries the meeting list of the one structure to that of the other.
-use Rattle.std.proofs.Common.{◌≡◌, ℕ, zero, suc, ◌-◌, ◌<◌, List, [], ◌∷◌, ◌++◌, map, length, slice_index, Some, refl, sym, ap, ◌∙◌, subst, inl, inr, append_assoc, append-nil, length-append, arith}
+use Rattle.std.proofs.Common.{◌≡◌, ℕ, zero, suc, ◌-◌, ◌<◌, List, [], ◌∷◌, ◌++◌, map, length, slice_index, Some, refl, sym, ap, ◌∙◌, subst, inl, inr, append_assoc, append-nil, length-append, arith, Contains}
 use Rattle.std.proofs.lemmas.Bool.{cases_lt}
 use Rattle.std.proofs.lemmas.List.{length-map, get_or-map, map-append, get_or_append_left, get_or-append_right}
 use Rattle.std.proofs.lemmas.Option.{slice_get-get_or}
+use Rattle.pm_perm.proofs.Contained.{contains_at, is_at}
 use Rattle.pm_perm.specs.Permutation.{IsPermutationBelow}
 use Rattle.pm_map.specs.Structure.{Structure, IsStructure, CarriesTo}
-use Rattle.pm_map.specs.Meeting.{StandsAt, Stands, IsVertexFrom, IsNextUnmet, darts_of, Meets, at_root, onward, IsMeetingList, no_dart, complete}
+use Rattle.pm_map.specs.Meeting.{StandsAt, IsVertexFrom, IsNextUnmet, darts_of, Meets, at_root, onward, IsMeetingList, no_dart, complete}
 use Rattle.pm_map.proofs.UniqueMeeting.{vertex_begins}
 
 -- the darts in the list are below the bound
@@ -23,9 +24,13 @@ AreBelow-append bound xs ys bx by' = record {
       ];
 }
 
+-- the list contains what stands in it at a place
+pub stands_there : (darts : List ℕ) (place d : ℕ) → StandsAt darts place d → Contains darts d
+stands_there darts place d at = contains_at darts d place at.within at.here
+
 -- a dart that stands in such a list is below the bound
-pub stands_below : (bound : ℕ) (darts : List ℕ) (d : ℕ) → AreBelow bound darts → Stands darts d → d < bound
-stands_below bound darts d all stands = subst (λ x. x < bound) (stands.1).here (all.below stands.0 (stands.1).within)
+pub stands_below : (bound : ℕ) (darts : List ℕ) (d : ℕ) → AreBelow bound darts → Contains darts d → d < bound
+stands_below bound darts d all stands = subst (λ x. x < bound) (is_at _ _ stands) (all.below stands.0 stands.1)
 
 pub darts_of-append : (vs ws : List (List ℕ)) → darts_of (vs ++ ws) ≡ darts_of vs ++ darts_of ws
 darts_of-append [] ws = refl
@@ -53,7 +58,7 @@ meets_below s vertices structure some (at_root vertex is) =
     subst (AreBelow s.darts) (sym (append-nil vertex)) (vertex_below s s.root vertex structure (structure.root_stays some) is)
 meets_below s vertices structure some (onward before d vertex met unmet is) =
     let front : AreBelow s.darts (darts_of before) = meets_below s before structure some met in
-    let dart : d < s.darts = stands_below s.darts (darts_of before) d front (unmet.place, unmet.at) in
+    let dart : d < s.darts = stands_below s.darts (darts_of before) d front (stands_there (darts_of before) unmet.place d unmet.at) in
     let back : AreBelow s.darts vertex = vertex_below s (s.twin d) vertex structure (structure.twin_stays d dart) is in
     subst (AreBelow s.darts) (sym (darts_of-onward before vertex)) (AreBelow-append s.darts (darts_of before) vertex front back)
 
@@ -64,20 +69,14 @@ map_at f darts k within = get_or-map f darts k 0 0 within
 pub stands_at_carried : (f : ℕ → ℕ) (darts : List ℕ) (place d : ℕ) → StandsAt darts place d → StandsAt (map f darts) place (f d)
 stands_at_carried f darts place d is = record { within = omega (arith, length-map darts f); here = map_at f darts place is.within ∙ ap f is.here }
 
-pub stands_carried : (f : ℕ → ℕ) (darts : List ℕ) (d : ℕ) → Stands darts d → Stands (map f darts) (f d)
-stands_carried f darts d stands = (stands.0, stands_at_carried f darts stands.0 d stands.1)
+pub stands_carried : (f : ℕ → ℕ) (darts : List ℕ) (d : ℕ) → Contains darts d → Contains (map f darts) (f d)
+stands_carried f darts d stands = stands_there (map f darts) stands.0 (f d) (stands_at_carried f darts stands.0 d (record { within = stands.1; here = is_at darts d stands }))
 
 -- and nothing else does
-pub stands_back : (f : ℕ → ℕ) (bound : ℕ) (darts : List ℕ) (d : ℕ) → IsPermutationBelow bound f → AreBelow bound darts → d < bound → Stands (map f darts) (f d) → Stands darts d
+pub stands_back : (f : ℕ → ℕ) (bound : ℕ) (darts : List ℕ) (d : ℕ) → IsPermutationBelow bound f → AreBelow bound darts → d < bound → Contains (map f darts) (f d) → Contains darts d
 stands_back f bound darts d renumbers all h stands =
-    let mapped : stands.0 < length (map f darts) = (stands.1).within in
-    let within : stands.0 < length darts = omega (arith, length-map darts f) in (
-      stands.0,
-      record {
-        within = within;
-        here = renumbers.injective (slice_index darts stands.0) d (all.below stands.0 within) h (sym (map_at f darts stands.0 within) ∙ (stands.1).here);
-      },
-    )
+    let mapped : stands.0 < length (map f darts) = stands.1 in
+    let within : stands.0 < length darts = omega (arith, length-map darts f) in (contains_at _ _ stands.0 within (renumbers.injective (slice_index darts stands.0) d (all.below stands.0 within) h (sym (map_at f darts stands.0 within) ∙ (is_at _ _ stands))))
 
 -- a renumbering carries a vertex to a vertex
 pub vertex_carried : (f : ℕ → ℕ) (a b : Structure) (d : ℕ) (vertex : List ℕ) → CarriesTo f a b → IsStructure a → d < a.darts → IsVertexFrom a d vertex → IsVertexFrom b (f d) (map f vertex)
@@ -103,18 +102,18 @@ vertex_carried f a b d vertex carries structure h is =
 -- and the first dart whose twin isn't met to the first dart whose twin isn't met
 pub next_unmet_carried : (f : ℕ → ℕ) (a b : Structure) (darts : List ℕ) (d : ℕ) → CarriesTo f a b → IsStructure a → AreBelow a.darts darts → IsNextUnmet a darts d → IsNextUnmet b (map f darts) (f d)
 next_unmet_carried f a b darts d carries structure all is =
-    let h : d < a.darts = stands_below a.darts darts d all (is.place, is.at) in
+    let h : d < a.darts = stands_below a.darts darts d all (stands_there darts is.place d is.at) in
     record {
       place = is.place;
       at = stands_at_carried f darts is.place d is.at;
       unmet = λ stands.
-          is.unmet (stands_back f a.darts darts (a.twin d) carries.renumbers all (structure.twin_stays d h) (subst (Stands (map f darts)) (sym (carries.twin d h)) stands));
+          is.unmet (stands_back f a.darts darts (a.twin d) carries.renumbers all (structure.twin_stays d h) (subst (Contains (map f darts)) (sym (carries.twin d h)) stands));
       first = λ k earlier.
           let place : is.place < length darts = is.at.within in
           let within : k < length darts = omega arith in
           let twins : f (a.twin (slice_index darts k)) ≡ b.twin (slice_index (map f darts) k) =
           carries.twin (slice_index darts k) (all.below k within) ∙ ap b.twin (sym (map_at f darts k within)) in
-          subst (Stands (map f darts)) twins (stands_carried f darts (a.twin (slice_index darts k)) (is.first k earlier));
+          subst (Contains (map f darts)) twins (stands_carried f darts (a.twin (slice_index darts k)) (is.first k earlier));
     }
 
 -- what is met is carried to what is met
@@ -123,21 +122,21 @@ meets_carried f a b vertices carries structure some (at_root vertex is) =
     at_root (map f vertex) (subst (λ r. IsVertexFrom b r (map f vertex)) (carries.root some) (vertex_carried f a b a.root vertex carries structure (structure.root_stays some) is))
 meets_carried f a b vertices carries structure some (onward before d vertex met unmet is) =
     let all : AreBelow a.darts (darts_of before) = meets_below a before structure some met in
-    let h : d < a.darts = stands_below a.darts (darts_of before) d all (unmet.place, unmet.at) in
+    let h : d < a.darts = stands_below a.darts (darts_of before) d all (stands_there _ unmet.place d unmet.at) in
     let next : IsNextUnmet b (darts_of (map (map f) before)) (f d) =
     subst (λ ds. IsNextUnmet b ds (f d)) (sym (darts_of-map f before)) (next_unmet_carried f a b (darts_of before) d carries structure all unmet) in
     let last : IsVertexFrom b (b.twin (f d)) (map f vertex) =
     subst (λ e. IsVertexFrom b e (map f vertex)) (carries.twin d h) (vertex_carried f a b (a.twin d) vertex carries structure (structure.twin_stays d h) is) in
     subst (Meets b) (sym (map-append (map f) before (vertex ∷ []))) (onward (map (map f) before) (f d) (map f vertex) (meets_carried f a b before carries structure some met) next last)
 
-twins_carried : (f : ℕ → ℕ) (a b : Structure) (darts : List ℕ) → CarriesTo f a b → AreBelow a.darts darts → ((d : ℕ) → Stands darts d → Stands darts (a.twin d)) → (e : ℕ) → Stands (map f darts) e → Stands (map f darts) (b.twin e)
+twins_carried : (f : ℕ → ℕ) (a b : Structure) (darts : List ℕ) → CarriesTo f a b → AreBelow a.darts darts → ((d : ℕ) → Contains darts d → Contains darts (a.twin d)) → (e : ℕ) → Contains (map f darts) e → Contains (map f darts) (b.twin e)
 twins_carried f a b darts carries all twins e stands =
-    let mapped : stands.0 < length (map f darts) = (stands.1).within in
+    let mapped : stands.0 < length (map f darts) = stands.1 in
     let within : stands.0 < length darts = omega (arith, length-map darts f) in
-    let there : Stands darts (a.twin (slice_index darts stands.0)) = twins (slice_index darts stands.0) (stands.0, record { within = within; here = refl }) in
+    let there : Contains darts (a.twin (slice_index darts stands.0)) = twins (slice_index darts stands.0) (contains_at _ _ stands.0 within refl) in
     let is : f (a.twin (slice_index darts stands.0)) ≡ b.twin e =
-    carries.twin (slice_index darts stands.0) (all.below stands.0 within) ∙ ap b.twin (sym (map_at f darts stands.0 within) ∙ (stands.1).here) in
-    subst (Stands (map f darts)) is (stands_carried f darts (a.twin (slice_index darts stands.0)) there)
+    carries.twin (slice_index darts stands.0) (all.below stands.0 within) ∙ ap b.twin (sym (map_at f darts stands.0 within) ∙ (is_at _ _ stands)) in
+    subst (Contains (map f darts)) is (stands_carried f darts (a.twin (slice_index darts stands.0)) there)
 
 -- a renumbering carries the meeting list to the meeting list
 pub meeting_list_carried : (f : ℕ → ℕ) (a b : Structure) (vertices : List (List ℕ)) → CarriesTo f a b → IsStructure a → IsMeetingList a vertices → IsMeetingList b (map (map f) vertices)
@@ -146,5 +145,5 @@ meeting_list_carried f a b vertices carries structure (complete vs some met twin
     let all : AreBelow a.darts (darts_of vs) = meets_below a vs structure some met in
     complete (map (map f) vs) (subst (λ n. 0 < n) carries.darts some) (meets_carried f a b vs carries structure some met)
     (λ e stands.
-    subst (λ ds. Stands ds (b.twin e)) (sym (darts_of-map f vs))
-    (twins_carried f a b (darts_of vs) carries all twins e (subst (λ ds. Stands ds e) (darts_of-map f vs) stands)))
+    subst (λ ds. Contains ds (b.twin e)) (sym (darts_of-map f vs))
+    (twins_carried f a b (darts_of vs) carries all twins e (subst (λ ds. Contains ds e) (darts_of-map f vs) stands)))

@@ -22,7 +22,6 @@ pub mod SameMaps
 pub mod SearchLemmas
 pub mod SimpleDarts
 mod SimpleLemmas
-pub mod StandsLemmas
 pub mod TableLemmas
 pub mod TwinLemmas
 pub mod UniqueCanonical

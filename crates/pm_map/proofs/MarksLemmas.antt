@@ -1,11 +1,11 @@
 -- Marks of the values of a list.
-use Rattle.std.proofs.Common.{◌≡◌, ℕ, ◌+◌, ◌<◌, inl, inr, Bool, true, false, Option, Some, None, List, length, get_or, set, sym, ◌∙◌, ap, subst, arith, length-set}
+use Rattle.std.proofs.Common.{◌≡◌, ℕ, ◌+◌, ◌<◌, inl, inr, Bool, true, false, Option, Some, None, List, length, get_or, set, sym, ◌∙◌, ap, subst, arith, length-set, Contains}
 use Rattle.std.proofs.lemmas.List.{get_or-set_same, get_or-set_other}
 use Rattle.std.proofs.lemmas.Bool.{cases_eq, false≢true}
 use Rattle.std.specs.Prelude.{MatchOption}
+use Rattle.pm_perm.proofs.Contained.{contains_at, is_at}
 use Rattle.pm_perm.specs.Permutation.{IsPermutationList}
 use Rattle.pm_perm.proofs.InverseLemmas.{standing_permutes}
-use Rattle.pm_map.specs.Meeting.{Stands}
 use Rattle.pm_map.specs.steps.Marks.{AllMarked, NoneMarked, IsLeastUnmarked, MarksValues}
 use Rattle.pm_map.specs.Missing.{IsLeastMissing}
 
@@ -36,7 +36,7 @@ MarksValues-more values place marks m within below =
         ]
       ];
       stands = λ n is. elim (cases_eq n value) [
-        | inl same ↦ (place, record { within = within; here = sym same })
+        | inl same ↦ (contains_at _ _ place within (sym same))
         | inr other ↦ m.stands n (sym (get_or-set_other marks value n true false other) ∙ is)
       ];
     }
@@ -65,8 +65,8 @@ missing_from_marks values marks n size m least = record {
   breaks = λ s. nowhere_marked s;
   least = λ k h. m.stands k (least.least k h);
 } where
-  nowhere_marked : Stands values n → ⊥
+  nowhere_marked : Contains values n → ⊥
   nowhere_marked s =
-      let inside : get_or values (s.0) 0 < length marks = subst (λ x. x < length marks) (sym (s.1.here)) least.within in
-      let marked : get_or marks n false ≡ true = subst (λ x. get_or marks x false ≡ true) (s.1.here) (m.marked (s.0) (s.1.within) inside) in
+      let inside : get_or values (s.0) 0 < length marks = subst (λ x. x < length marks) (sym ((is_at _ _ s))) least.within in
+      let marked : get_or marks n false ≡ true = subst (λ x. get_or marks x false ≡ true) ((is_at _ _ s)) (m.marked (s.0) (s.1) inside) in
       false≢true (sym least.breaks ∙ marked)

@@ -1,8 +1,9 @@
 -- The search for the darts that the root reaches: the walk around a face, one step of the search, and what it ends with.
-use Rattle.std.proofs.Common.{◌≡◌, ◌≢◌, ℕ, zero, suc, ◌+◌, ◌<◌, ◌≤◌, ◌%◌, ◌⊎◌, ◌&&◌, not, inl, inr, Bool, true, false, cond, eqb, nat_eq, List, [], ◌∷◌, ◌++◌, length, get_or, set, sum_by, refl, sym, ◌∙◌, ap, subst, arith, length-set}
+use Rattle.std.proofs.Common.{◌≡◌, ◌≢◌, ℕ, zero, suc, ◌+◌, ◌<◌, ◌≤◌, ◌%◌, ◌⊎◌, ◌&&◌, not, inl, inr, Bool, true, false, cond, eqb, nat_eq, List, [], ◌∷◌, ◌++◌, length, get_or, set, sum_by, refl, sym, ◌∙◌, ap, subst, arith, length-set, Contains}
 use Rattle.std.proofs.lemmas.List.{get_or-set_same, get_or-set_other, length_push}
 use Rattle.std.proofs.lemmas.List.Sums.{sum_by-set}
 use Rattle.std.proofs.lemmas.Bool.{cases_eq, false≢true}
+use Rattle.std.proofs.lemmas.List.Elements.{Contains-append_left, Contains-push, Contains-push_cases}
 use Rattle.pm_perm.specs.Count.{count_below}
 use Rattle.pm_perm.specs.Cycles.{repeated, leader, cycles, IsInCycle, IsLeastInCycle}
 use Rattle.pm_perm.specs.Permutation.{IsPermutationBelow, IsPermutationList}
@@ -12,23 +13,21 @@ use Rattle.pm_perm.proofs.LeaderMaps.{leader-map, leader_map-inside, leader_map-
 use Rattle.pm_perm.proofs.SameCycle.{in_cycle-back, in_cycle-leader}
 use Rattle.pm_map.specs.Structure.{Structure, IsStructure, IsClosedSet, face_next}
 use Rattle.pm_map.specs.Rotation.{structure_of, twin}
-use Rattle.pm_map.specs.Meeting.{Stands}
 use Rattle.pm_map.specs.steps.Marks.{IsMarked, AllMarked, NoneMarked, IsLeastUnmarked}
 use Rattle.pm_map.specs.Reached.{IsReached, IsLeastUnreached}
 use Rattle.pm_map.specs.steps.ReachAnswers.{IsReachedWhole}
 use Rattle.pm_map.specs.steps.Search.{MarksFaces, IsSearch, work_left, WalksFace, MarksFace}
 use Rattle.pm_map.specs.Rotation.{face_step}
 use Rattle.pm_map.proofs.CarriedStructure.{face_permutes}
-use Rattle.pm_map.proofs.StandsLemmas.{Stands-push, Stands-append_left, cases_push}
 use Rattle.pm_map.proofs.TwinLemmas.{twin_stays}
 
 -- the dart is marked, and waits, and wasn't marked before; nothing else changes
 record MeetsDart (dart : ℕ) (marks : List Bool) (stack : List ℕ) (marks_after : List Bool) (stack_after : List ℕ) : Type 0 where
   marked : IsMarked marks_after dart
   kept : (e : ℕ) → IsMarked marks e → IsMarked marks_after e
-  fresh : (e : ℕ) → IsMarked marks_after e → IsMarked marks e ⊎ ((e ≡ dart) × Stands stack_after e)
-  stacked : (e : ℕ) → Stands stack e → Stands stack_after e
-  only : (e : ℕ) → Stands stack_after e → Stands stack e ⊎ (e ≡ dart)
+  fresh : (e : ℕ) → IsMarked marks_after e → IsMarked marks e ⊎ ((e ≡ dart) × Contains stack_after e)
+  stacked : (e : ℕ) → Contains stack e → Contains stack_after e
+  only : (e : ℕ) → Contains stack_after e → Contains stack e ⊎ (e ≡ dart)
   work : work_left marks_after stack_after ≤ work_left marks stack
 
 -- one dart more is marked and waits: there is less to do
@@ -53,11 +52,11 @@ MeetsDart-new dart marks stack within unmarked =
         | inr other ↦ get_or-set_other marks dart e true false other ∙ h
       ];
       fresh = λ e h. elim (cases_eq e dart) [
-        | inl same ↦ inr (same, subst (λ x. Stands (stack ++ dart ∷ []) x) (sym same) (Stands-push stack dart))
+        | inl same ↦ inr (same, subst (λ x. Contains (stack ++ dart ∷ []) x) (sym same) (Contains-push stack dart))
         | inr other ↦ inl (sym (get_or-set_other marks dart e true false other) ∙ h)
       ];
-      stacked = λ e h. Stands-append_left stack (dart ∷ []) e h;
-      only = λ e h. elim (cases_push stack dart e h) [ inl before ↦ inl before | inr last ↦ inr (sym last) ];
+      stacked = λ e h. Contains-append_left stack (dart ∷ []) e h;
+      only = λ e h. elim (Contains-push_cases stack dart e h) [ inl before ↦ inl before | inr last ↦ inr (sym last) ];
       work = work-more marks stack dart within unmarked;
     }
 
@@ -220,8 +219,8 @@ MarksFaces-more sigma root start marks stack count marks1 stack1 structure m h r
           (λ d is. elim (w.walk.fresh d is) [ inl before ↦ inl before | inr new ↦ inr new.1 ]));
     }
 
-stands_nowhere : (d : ℕ) → Stands [] d → ⊥
-stands_nowhere d st = let h : st.0 < 0 = st.1.within in omega arith
+stands_nowhere : (d : ℕ) → Contains [] d → ⊥
+stands_nowhere d st = let h : st.0 < 0 = st.1 in omega arith
 
 -- no face is marked
 MarksFaces-none : (s : Structure) (marks : List Bool) → NoneMarked marks → MarksFaces s marks [] 0
@@ -247,8 +246,8 @@ IsSearch-begins sigma root marks marks1 stack1 structure none h w =
 -- one dart less waits
 MarksFaces-pop : (s : Structure) (dart : ℕ) (marks : List Bool) (stack : List ℕ) (count : ℕ) → MarksFaces s marks (stack ++ dart ∷ []) count → MarksFaces s marks stack count
 MarksFaces-pop s dart marks stack count m = record {
-  below = λ d st. m.below d (Stands-append_left stack (dart ∷ []) d st);
-  waiting = λ d st. m.waiting d (Stands-append_left stack (dart ∷ []) d st);
+  below = λ d st. m.below d (Contains-append_left stack (dart ∷ []) d st);
+  waiting = λ d st. m.waiting d (Contains-append_left stack (dart ∷ []) d st);
   whole = m.whole;
   reached = m.reached;
   counted = m.counted;
@@ -260,7 +259,7 @@ pub IsSearch-pop : (s : Structure) (dart : ℕ) (marks : List Bool) (stack : Lis
 IsSearch-pop s dart marks stack count search is_twin = record {
   root = search.root;
   done = λ d h is. elim (search.done d h is) [
-    | inl st ↦ elim (cases_push stack dart d st) [ inl before ↦ inl before | inr same ↦ inr (subst (λ x. IsMarked marks (s.twin x)) same is_twin) ]
+    | inl st ↦ elim (Contains-push_cases stack dart d st) [ inl before ↦ inl before | inr same ↦ inr (subst (λ x. IsMarked marks (s.twin x)) same is_twin) ]
     | inr other ↦ inr other
   ];
   marked = MarksFaces-pop s dart marks stack count search.marked;
@@ -273,14 +272,14 @@ pub IsSearch-step : (sigma : List ℕ) (root dart : ℕ) (marks : List Bool) (st
     → IsSearch (structure_of (record { sigma = sigma; root = root })) marks1 stack1 (count + 1)
 IsSearch-step sigma root dart marks stack count marks1 stack1 structure search unmarked w =
     let s : Structure = structure_of (record { sigma = sigma; root = root }) in
-    let below : dart < length sigma = search.marked.below dart (Stands-push stack dart) in
-    let reached : IsReached s dart = search.marked.reached dart (search.marked.waiting dart (Stands-push stack dart)) in
+    let below : dart < length sigma = search.marked.below dart (Contains-push stack dart) in
+    let reached : IsReached s dart = search.marked.reached dart (search.marked.waiting dart (Contains-push stack dart)) in
     let start : IsMarked marks1 (twin dart) = MarksFace-start sigma (twin dart) marks stack marks1 stack1 w in
     record {
       root = w.walk.kept root search.root;
       done = λ d h is. elim (w.walk.fresh d is) [
         | inl before ↦ elim (search.done d h before) [
-          | inl st ↦ elim (cases_push stack dart d st) [
+          | inl st ↦ elim (Contains-push_cases stack dart d st) [
             | inl waits ↦ inl (w.walk.stacked d waits)
             | inr same ↦ inr (subst (λ x. IsMarked marks1 (twin x)) same start)
           ]
@@ -327,7 +326,7 @@ unreached_from_marks s marks count d structure size search least = record {
 
 -- what comes from the top of the stack is a dart
 pub IsSearch-popped : (s : Structure) (marks : List Bool) (stack rest : List ℕ) (count dart : ℕ) → IsSearch s marks stack count → stack ≡ rest ++ dart ∷ [] → dart < s.darts
-IsSearch-popped s marks stack rest count dart search is = search.marked.below dart (subst (λ x. Stands x dart) (sym is) (Stands-push rest dart))
+IsSearch-popped s marks stack rest count dart search is = search.marked.below dart (subst (λ x. Contains x dart) (sym is) (Contains-push rest dart))
 
 -- there are at most as many faces as darts
 pub IsSearch-bound : (s : Structure) (marks : List Bool) (stack : List ℕ) (count : ℕ) → IsSearch s marks stack count → count ≤ s.darts

@@ -1,10 +1,11 @@
 -- A structure has one meeting list: its vertices, each next dart and the whole list are determined.
-use Rattle.std.proofs.Common.{◌≡◌, ℕ, zero, suc, ◌-◌, ◌<◌, ◌≤◌, List, [], ◌∷◌, ◌++◌, length, take, slice_index, refl, sym, ap, ◌∙◌, subst, inl, inr, ext_get_or, take_all, length-append, arith}
+use Rattle.std.proofs.Common.{◌≡◌, ℕ, zero, suc, ◌-◌, ◌<◌, ◌≤◌, List, [], ◌∷◌, ◌++◌, length, take, slice_index, refl, sym, ap, ◌∙◌, subst, inl, inr, ext_get_or, take_all, length-append, arith, Contains}
 use Rattle.std.proofs.lemmas.Bool.{cases_order, cases_lt}
 use Rattle.std.proofs.lemmas.List.{take-append-le}
 use Rattle.std.proofs.lemmas.Option.{slice_get_within, get_or_from_slice_get}
+use Rattle.pm_perm.proofs.Contained.{contains_at}
 use Rattle.pm_map.specs.Structure.{Structure}
-use Rattle.pm_map.specs.Meeting.{StandsAt, Stands, IsVertexFrom, IsNextUnmet, darts_of, Meets, at_root, onward, IsMeetingList, no_dart, complete}
+use Rattle.pm_map.specs.Meeting.{IsVertexFrom, IsNextUnmet, darts_of, Meets, at_root, onward, IsMeetingList, no_dart, complete}
 
 -- a vertex has a first dart, the one that it is from
 pub vertex_begins : (s : Structure) (d : ℕ) (vertex : List ℕ) → IsVertexFrom s d vertex → (0 < length vertex) × (slice_index vertex 0 ≡ d)
@@ -37,7 +38,7 @@ vertex_is_unique s d v w iv iw =
 
 unmet_not_later : (s : Structure) (darts : List ℕ) (d e : ℕ) → (id : IsNextUnmet s darts d) → (ie : IsNextUnmet s darts e) → id.place < ie.place → ⊥
 unmet_not_later s darts d e id ie less =
-    id.unmet (subst (λ x. Stands darts (s.twin x)) id.at.here (ie.first id.place less))
+    id.unmet (subst (λ x. Contains darts (s.twin x)) id.at.here (ie.first id.place less))
 
 -- of one list, the first dart whose twin isn't in the list is one
 pub next_unmet_is_unique : (s : Structure) (darts : List ℕ) (d e : ℕ) → IsNextUnmet s darts d → IsNextUnmet s darts e → d ≡ e
@@ -89,7 +90,7 @@ meets_is_front s v w mv (onward ws e b mw ue ib) le =
 
 -- with each dart that stands in the list its twin stands in it
 pub record HoldsTwins (s : Structure) (darts : List ℕ) : Type 0 where
-  pub twin_stands : (d : ℕ) → Stands darts d → Stands darts (s.twin d)
+  pub twin_stands : (d : ℕ) → Contains darts d → Contains darts (s.twin d)
 
 -- nothing is met after all is met
 pub meets_no_more : (s : Structure) (v w : List (List ℕ)) → Meets s v → HoldsTwins s (darts_of v) → Meets s w → length v < length w → ⊥
@@ -99,8 +100,8 @@ meets_no_more s v w mv all (onward ws e b mw ue ib) less =
       | inl earlier ↦ meets_no_more s v ws mv all mw earlier
       | inr last ↦
           let same : v ≡ ws = meets_is_unique s v ws mv mw (omega (arith, length_onward ws b)) in
-          let there : Stands (darts_of v) e = (ue.place, subst (λ x. StandsAt (darts_of x) ue.place e) (sym same) ue.at) in
-          ue.unmet (subst (λ x. Stands (darts_of x) (s.twin e)) same (all.twin_stands e there))
+          let there : Contains (darts_of v) e = subst (λ x. Contains (darts_of x) e) (sym same) (contains_at (darts_of ws) e ue.place ue.at.within ue.at.here) in
+          ue.unmet (subst (λ x. Contains (darts_of x) (s.twin e)) same (all.twin_stands e there))
     ]
 
 -- a structure has one meeting list

@@ -1,6 +1,7 @@
 -- There is one answer to a rotation and a root.
-use Rattle.std.proofs.Common.{◌≡◌, ℕ, ◌*◌, ◌≤◌, List, length, get_or, ℤ, Result, Ok, Err, refl, ap, sym, ◌∙◌, arith}
+use Rattle.std.proofs.Common.{◌≡◌, ℕ, ◌*◌, ◌≤◌, List, length, get_or, ℤ, Result, Ok, Err, refl, ap, sym, ◌∙◌, arith, Contains}
 use Rattle.std.proofs.lemmas.Bool.{false≢true}
+use Rattle.pm_perm.proofs.Contained.{contains_at}
 use Rattle.pm_limits.specs.declared.TheConstants.{MAX_EDGES}
 use Rattle.pm_perm.specs.Permutation.{IsPermutationList}
 use Rattle.pm_perm.proofs.LeastLemmas.{least_is_unique}
@@ -9,7 +10,6 @@ use Rattle.pm_map.specs.declared.rooted_map.RootedMap.{RootedMap}
 use Rattle.pm_map.specs.declared.refusal.MapRefusal.{MapRefusal}
 use Rattle.pm_map.specs.declared.refusal.MapRefusal.TheVariants.{Memory, TooMany, NotPermutation, NotConnected, Genus}
 use Rattle.pm_map.specs.Structure.{Structure, IsConnected}
-use Rattle.pm_map.specs.Meeting.{Stands}
 use Rattle.pm_map.specs.Missing.{IsLeastMissing}
 use Rattle.pm_map.specs.Reached.{IsReached, IsUnreached, IsLeastUnreached}
 use Rattle.pm_map.specs.Rotation.{structure_of}
@@ -19,7 +19,7 @@ use Rattle.pm_map.specs.Parts.{HasTooMany, IsNoPermutation, IsNotConnected, HasG
 pub permutation_is_whole : (values : List ℕ) (n : ℕ) → IsPermutationList values → IsLeastMissing values n → ⊥
 permutation_is_whole values n permutes missing =
     let found = reached (λ k. get_or values k 0) (length values) n permutes missing.within in
-    missing.breaks (found.from, record { within = found.below; here = found.value })
+    missing.breaks (contains_at _ _ found.from found.below found.value)
 
 -- no dart is both reached and not
 pub reached_or_unreached : (s : Structure) (d : ℕ) → IsReached s d → IsUnreached s d → ⊥
@@ -32,7 +32,7 @@ connected_reaches s d connected least =
 
 -- a list leaves out one least number
 pub least_missing_is_unique : (values : List ℕ) (a b : ℕ) → IsLeastMissing values a → IsLeastMissing values b → a ≡ b
-least_missing_is_unique values = least_is_unique (length values) (Stands values) (λ n. Stands values n → ⊥) (λ n stands not. not stands)
+least_missing_is_unique values = least_is_unique (length values) (Contains values) (λ n. Contains values n → ⊥) (λ n stands not. not stands)
 
 -- a structure has one least dart that isn't reached
 pub least_unreached_is_unique : (s : Structure) (a b : ℕ) → IsLeastUnreached s a → IsLeastUnreached s b → a ≡ b

@@ -1,52 +1,53 @@
 -- The meeting list of a connected structure has every dart, each once.
-use Rattle.std.proofs.Common.{◌≡◌, ℕ, zero, suc, ◌+◌, ◌-◌, ◌<◌, true, ◌==◌, List, [], ◌∷◌, ◌++◌, length, slice_index, refl, sym, ap, ◌∙◌, subst, inl, inr, append-nil, length-append, eq-eqb, eqb-true, arith}
+use Rattle.std.proofs.Common.{◌≡◌, ℕ, zero, suc, ◌+◌, ◌-◌, ◌<◌, true, ◌==◌, List, [], ◌∷◌, ◌++◌, length, slice_index, refl, sym, ap, ◌∙◌, subst, inl, inr, append-nil, length-append, eq-eqb, eqb-true, arith, Contains}
 use Rattle.std.specs.List.{list_any}
 use Rattle.std.proofs.lemmas.Bool.{cases_lt, cases_order, or_cases, false≢true}
 use Rattle.std.proofs.lemmas.List.{get_or_append_left, get_or-append_right}
 use Rattle.std.proofs.lemmas.List.Folds.{list_any_at}
+use Rattle.std.proofs.lemmas.List.Elements.{Contains-append_cases, Contains-append_left, Contains-append_right}
+use Rattle.pm_perm.proofs.Contained.{contains_at, contains_first, contains_later, is_at}
 use Rattle.pm_map.specs.Structure.{Structure, IsStructure, IsClosedSet, IsConnected}
-use Rattle.pm_map.specs.Meeting.{Stands, IsVertexFrom, darts_of, Meets, at_root, onward, IsMeetingList, no_dart, complete}
-use Rattle.pm_map.proofs.StandsLemmas.{Stands-cons, Stands-append_left, Stands-append_right, cases_Stands}
+use Rattle.pm_map.specs.Meeting.{IsVertexFrom, darts_of, Meets, at_root, onward, IsMeetingList, no_dart, complete}
 use Rattle.pm_map.proofs.UniqueMeeting.{vertex_begins}
-use Rattle.pm_map.proofs.CarriedMeeting.{AreBelow, stands_below, darts_of-onward, vertex_below, meets_below}
+use Rattle.pm_map.proofs.CarriedMeeting.{AreBelow, stands_there, stands_below, darts_of-onward, vertex_below, meets_below}
 
 -- the test whether a dart stands in the list
-pub test_from_stands : (darts : List ℕ) (d : ℕ) → Stands darts d → list_any (λ e. e == d) darts ≡ true
+pub test_from_stands : (darts : List ℕ) (d : ℕ) → Contains darts d → list_any (λ e. e == d) darts ≡ true
 test_from_stands darts d stands =
-    list_any_at (λ e. e == d) darts stands.0 0 (stands.1).within (eq-eqb (slice_index darts stands.0) d (stands.1).here)
+    list_any_at (λ e. e == d) darts stands.0 0 stands.1 (eq-eqb (slice_index darts stands.0) d (is_at _ _ stands))
 
-pub stands_from_test : (darts : List ℕ) (d : ℕ) → list_any (λ e. e == d) darts ≡ true → Stands darts d
+pub stands_from_test : (darts : List ℕ) (d : ℕ) → list_any (λ e. e == d) darts ≡ true → Contains darts d
 stands_from_test [] d test = absurd (false≢true test)
 stands_from_test (x ∷ darts) d test =
     elim (or_cases (x == d) (list_any (λ e. e == d) darts) test) [
-      | inl here ↦ (0, record { within = omega arith; here = eqb-true x d here })
-      | inr later ↦ Stands-cons x darts d (stands_from_test darts d later)
+      | inl here ↦ contains_first x d darts (eqb-true x d here)
+      | inr later ↦ contains_later x darts d (stands_from_test darts d later)
     ]
 
 -- with each dart that stands in the list the next around its vertex stands in it
 pub record HoldsNext (s : Structure) (darts : List ℕ) : Type 0 where
-  pub next_stands : (d : ℕ) → Stands darts d → Stands darts (s.next d)
+  pub next_stands : (d : ℕ) → Contains darts d → Contains darts (s.next d)
 
 -- a vertex holds with each dart the next
 pub vertex_holds_next : (s : Structure) (e : ℕ) (vertex : List ℕ) → IsVertexFrom s e vertex → HoldsNext s vertex
 vertex_holds_next s e vertex is = record {
   next_stands = λ d stands.
-      let within : stands.0 < length vertex = (stands.1).within in
+      let within : stands.0 < length vertex = stands.1 in
       elim (cases_lt (suc stands.0) (length vertex)) [
-        | inl inside ↦ (suc stands.0, record { within = inside; here = is.goes stands.0 inside ∙ ap s.next (stands.1).here })
+        | inl inside ↦ (contains_at _ _ (suc stands.0) inside (is.goes stands.0 inside ∙ ap s.next (is_at _ _ stands)))
         | inr end ↦
             let last : length vertex - 1 ≡ stands.0 = omega arith in
-            let around : e ≡ s.next d = sym is.ends ∙ ap (λ k. s.next (slice_index vertex k)) last ∙ ap s.next (stands.1).here in
-            (0, record { within = omega arith; here = (vertex_begins s e vertex is).1 ∙ around })
+            let around : e ≡ s.next d = sym is.ends ∙ ap (λ k. s.next (slice_index vertex k)) last ∙ ap s.next (is_at _ _ stands) in
+            contains_at vertex (s.next d) 0 (omega arith) ((vertex_begins s e vertex is).1 ∙ around)
       ];
 }
 
 HoldsNext-append : (s : Structure) (xs ys : List ℕ) → HoldsNext s xs → HoldsNext s ys → HoldsNext s (xs ++ ys)
 HoldsNext-append s xs ys hx hy = record {
   next_stands = λ d stands.
-      elim (cases_Stands xs ys d stands) [
-        | inl front ↦ Stands-append_left xs ys (s.next d) (hx.next_stands d front)
-        | inr back ↦ Stands-append_right xs ys (s.next d) (hy.next_stands d back)
+      elim (Contains-append_cases xs ys d stands) [
+        | inl front ↦ Contains-append_left xs ys (s.next d) (hx.next_stands d front)
+        | inr back ↦ Contains-append_right xs ys (s.next d) (hy.next_stands d back)
       ];
 }
 
@@ -58,14 +59,14 @@ meets_holds_next s vertices (onward before d vertex met unmet is) =
     (HoldsNext-append s (darts_of before) vertex (meets_holds_next s before met) (vertex_holds_next s (s.twin d) vertex is))
 
 -- the root is met
-pub root_is_met : (s : Structure) (vertices : List (List ℕ)) → Meets s vertices → Stands (darts_of vertices) s.root
+pub root_is_met : (s : Structure) (vertices : List (List ℕ)) → Meets s vertices → Contains (darts_of vertices) s.root
 root_is_met s vertices (at_root vertex is) =
-    subst (λ ds. Stands ds s.root) (sym (append-nil vertex)) (0, record { within = (vertex_begins s s.root vertex is).0; here = (vertex_begins s s.root vertex is).1 })
+    subst (λ ds. Contains ds s.root) (sym (append-nil vertex)) (contains_at _ _ 0 ((vertex_begins s s.root vertex is).0) ((vertex_begins s s.root vertex is).1))
 root_is_met s vertices (onward before d vertex met unmet is) =
-    subst (λ ds. Stands ds s.root) (sym (darts_of-onward before vertex)) (Stands-append_left (darts_of before) vertex s.root (root_is_met s before met))
+    subst (λ ds. Contains ds s.root) (sym (darts_of-onward before vertex)) (Contains-append_left (darts_of before) vertex s.root (root_is_met s before met))
 
 -- in a connected structure every dart is met
-pub meeting_list_is_whole : (s : Structure) (vertices : List (List ℕ)) → IsConnected s → IsMeetingList s vertices → (d : ℕ) → d < s.darts → Stands (darts_of vertices) d
+pub meeting_list_is_whole : (s : Structure) (vertices : List (List ℕ)) → IsConnected s → IsMeetingList s vertices → (d : ℕ) → d < s.darts → Contains (darts_of vertices) d
 meeting_list_is_whole s vertices connected (no_dart none) d h = absurd (omega arith)
 meeting_list_is_whole s vertices connected (complete vs some met twins) d h =
     let root : list_any (λ e. e == s.root) (darts_of vs) ≡ true = test_from_stands (darts_of vs) s.root (root_is_met s vs met) in
@@ -104,21 +105,21 @@ vertex_stands_once s e vertex structure h is = record {
       ];
 }
 
-walk_around : (s : Structure) (e : ℕ) (vertex darts : List ℕ) → IsVertexFrom s e vertex → HoldsNext s darts → (rest k : ℕ) → suc (k + rest) ≡ length vertex → Stands darts (slice_index vertex k) → Stands darts e
+walk_around : (s : Structure) (e : ℕ) (vertex darts : List ℕ) → IsVertexFrom s e vertex → HoldsNext s darts → (rest k : ℕ) → suc (k + rest) ≡ length vertex → Contains darts (slice_index vertex k) → Contains darts e
 walk_around s e vertex darts is holds zero k last stands =
     let place : length vertex - 1 ≡ k = omega arith in
-    subst (Stands darts) (ap (λ i. s.next (slice_index vertex i)) (sym place) ∙ is.ends) (holds.next_stands (slice_index vertex k) stands)
+    subst (Contains darts) (ap (λ i. s.next (slice_index vertex i)) (sym place) ∙ is.ends) (holds.next_stands (slice_index vertex k) stands)
 walk_around s e vertex darts is holds (suc rest) k last stands =
     let inside : suc k < length vertex = omega arith in
-    walk_around s e vertex darts is holds rest (suc k) (omega arith) (subst (Stands darts) (sym (is.goes k inside)) (holds.next_stands (slice_index vertex k) stands))
+    walk_around s e vertex darts is holds rest (suc k) (omega arith) (subst (Contains darts) (sym (is.goes k inside)) (holds.next_stands (slice_index vertex k) stands))
 
 -- a list that holds with each dart the next has all of a vertex or none of it
-pub vertex_all_or_none : (s : Structure) (e : ℕ) (vertex darts : List ℕ) (d : ℕ) → IsVertexFrom s e vertex → HoldsNext s darts → Stands vertex d → Stands darts d → Stands darts e
+pub vertex_all_or_none : (s : Structure) (e : ℕ) (vertex darts : List ℕ) (d : ℕ) → IsVertexFrom s e vertex → HoldsNext s darts → Contains vertex d → Contains darts d → Contains darts e
 vertex_all_or_none s e vertex darts d is holds inside stands =
-    let within : inside.0 < length vertex = (inside.1).within in
-    walk_around s e vertex darts is holds (length vertex - 1 - inside.0) inside.0 (omega arith) (subst (Stands darts) (sym (inside.1).here) stands)
+    let within : inside.0 < length vertex = inside.1 in
+    walk_around s e vertex darts is holds (length vertex - 1 - inside.0) inside.0 (omega arith) (subst (Contains darts) (sym (is_at _ _ inside)) stands)
 
-StandOnce-append : (xs ys : List ℕ) → StandOnce xs → StandOnce ys → ((d : ℕ) → Stands xs d → Stands ys d → ⊥) → StandOnce (xs ++ ys)
+StandOnce-append : (xs ys : List ℕ) → StandOnce xs → StandOnce ys → ((d : ℕ) → Contains xs d → Contains ys d → ⊥) → StandOnce (xs ++ ys)
 StandOnce-append xs ys ox oy apart = record {
   once = λ i j hi hj same.
       elim (cases_lt i (length xs)) [
@@ -128,16 +129,16 @@ StandOnce-append xs ys ox oy apart = record {
               | inl front_j ↦ ox.once i j front_i front_j (sym at_i ∙ same ∙ get_or_append_left xs ys 0 j front_j)
               | inr back_j ↦
                   let within : j - length xs < length ys = omega (arith, length-append xs ys) in
-                  absurd (apart (slice_index xs i) (i, record { within = front_i; here = refl })
-                  (j - length xs, record { within = within; here = sym (get_or-append_right xs ys (length xs) j 0 refl back_j) ∙ sym same ∙ at_i }))
+                  absurd (apart (slice_index xs i) (contains_at _ _ i front_i refl)
+                  (contains_at _ _ (j - length xs) within (sym (get_or-append_right xs ys (length xs) j 0 refl back_j) ∙ sym same ∙ at_i)))
             ]
         | inr back_i ↦
             let at_i : slice_index (xs ++ ys) i ≡ slice_index ys (i - length xs) = get_or-append_right xs ys (length xs) i 0 refl back_i in
             let within_i : i - length xs < length ys = omega (arith, length-append xs ys) in
             elim (cases_lt j (length xs)) [
               | inl front_j ↦
-                  absurd (apart (slice_index xs j) (j, record { within = front_j; here = refl })
-                  (i - length xs, record { within = within_i; here = sym at_i ∙ same ∙ get_or_append_left xs ys 0 j front_j }))
+                  absurd (apart (slice_index xs j) (contains_at _ _ j front_j refl)
+                  (contains_at _ _ (i - length xs) within_i (sym at_i ∙ same ∙ get_or_append_left xs ys 0 j front_j)))
               | inr back_j ↦
                   let within_j : j - length xs < length ys = omega (arith, length-append xs ys) in
                   let equal : i - length xs ≡ j - length xs =
@@ -152,7 +153,7 @@ pub meets_once : (s : Structure) (vertices : List (List ℕ)) → IsStructure s 
 meets_once s vertices structure some (at_root vertex is) =
     subst StandOnce (sym (append-nil vertex)) (vertex_stands_once s s.root vertex structure (structure.root_stays some) is)
 meets_once s vertices structure some (onward before d vertex met unmet is) =
-    let dart : d < s.darts = stands_below s.darts (darts_of before) d (meets_below s before structure some met) (unmet.place, unmet.at) in
+    let dart : d < s.darts = stands_below s.darts (darts_of before) d (meets_below s before structure some met) (stands_there (darts_of before) unmet.place d unmet.at) in
     subst StandOnce (sym (darts_of-onward before vertex))
     (StandOnce-append (darts_of before) vertex (meets_once s before structure some met)
     (vertex_stands_once s (s.twin d) vertex structure (structure.twin_stays d dart) is)

@@ -30,14 +30,6 @@ AllAdmitted s degrees = (d : ℕ) → d < s.darts → HasAdmittedDegree s degree
 abbrev pub IsLeastOther : Structure → Degrees → ℕ → Type 0
 IsLeastOther s degrees d = IsLeast s.darts (HasAdmittedDegree s degrees) (λ e. HasAdmittedDegree s degrees e → ⊥) d
 
--- the least dart whose edge is a loop
-abbrev pub IsLeastLoop : Structure → ℕ → Type 0
-IsLeastLoop s d = IsLeast s.darts (λ e. IsLoop s e → ⊥) (IsLoop s) d
-
--- the least dart whose edge has a double
-abbrev pub IsLeastDouble : Structure → ℕ → Type 0
-IsLeastDouble s d = IsLeast s.darts (λ e. IsDouble s e → ⊥) (IsDouble s) d
-
 -- What a map is answered that should be quartic: its size, or the first rule that it breaks. Want of memory may come at
 -- any map.
 abbrev pub IsQuarticAnswer : RotationSystem → Result ℕ ClassRefusal → Type 0

@@ -1,22 +1,23 @@
 -- The meeting list: the vertices of a connected structure in the order in which they are met from the root.
-use Rattle.std.specs.Prelude.{◌≡◌, ◌≢◌, ℕ, suc, ◌<◌, ◌-◌, List, [], ◌∷◌, ◌++◌, length, slice_get, slice_index, Some}
+use Rattle.std.specs.Prelude.{◌≡◌, ℕ, ◌<◌, List, [], ◌∷◌, ◌++◌, length, slice_index, Contains}
 use Rattle.pm_map.specs.Structure.{Structure}
-pub use Rattle.pm_perm.specs.Lists.{StandsAt, Stands}
+use Rattle.pm_perm.specs.CycleList.{IsCycleFrom}
 
--- the list is the vertex of d, from d on: each dart is followed by the next around the vertex, the last leads back to d,
--- and d stands once
-pub record IsVertexFrom (s : Structure) (d : ℕ) (vertex : List ℕ) : Type 0 where
-  pub begins : slice_get vertex 0 ≡ Some d
-  pub goes : (k : ℕ) → suc k < length vertex → slice_index vertex (suc k) ≡ s.next (slice_index vertex k)
-  pub ends : s.next (slice_index vertex (length vertex - 1)) ≡ d
-  pub once : (k : ℕ) → suc k < length vertex → slice_index vertex (suc k) ≢ d
+-- the list is the vertex of d, from d on, each dart followed by the next around the vertex
+abbrev pub IsVertexFrom : Structure → ℕ → List ℕ → Type 0
+IsVertexFrom s d vertex = IsCycleFrom s.next d vertex
+
+-- the dart stands in the list, at this place
+pub record StandsAt (darts : List ℕ) (place dart : ℕ) : Type 0 where
+  pub within : place < length darts
+  pub here : slice_index darts place ≡ dart
 
 -- the first dart of the list whose twin isn't in the list
 pub record IsNextUnmet (s : Structure) (darts : List ℕ) (d : ℕ) : Type 0 where
   pub place : ℕ
   pub at : StandsAt darts place d
-  pub unmet : Stands darts (s.twin d) → ⊥
-  pub first : (k : ℕ) → k < place → Stands darts (s.twin (slice_index darts k))
+  pub unmet : Contains darts (s.twin d) → ⊥
+  pub first : (k : ℕ) → k < place → Contains darts (s.twin (slice_index darts k))
 
 -- the darts of some vertices, one vertex after another
 abbrev pub darts_of : List (List ℕ) → List ℕ
@@ -34,4 +35,4 @@ pub data Meets (s : Structure) : List (List ℕ) → Type 0 where
 pub data IsMeetingList (s : Structure) : List (List ℕ) → Type 0 where
   no_dart : s.darts ≡ 0 → IsMeetingList s []
   complete : (vertices : List (List ℕ)) → 0 < s.darts → Meets s vertices
-      → ((d : ℕ) → Stands (darts_of vertices) d → Stands (darts_of vertices) (s.twin d)) → IsMeetingList s vertices
+      → ((d : ℕ) → Contains (darts_of vertices) d → Contains (darts_of vertices) (s.twin d)) → IsMeetingList s vertices

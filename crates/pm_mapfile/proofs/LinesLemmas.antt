@@ -1,14 +1,13 @@
 -- The lines of a map text and the rotation that they tell.
-use Rattle.std.proofs.Common.{◌≡◌, ℕ, ◌+◌, ◌-◌, ◌*◌, ◌<◌, inl, inr, List, [], ◌∷◌, ◌++◌, length, drop, get_or, map, refl, sym, ap, ◌∙◌, subst, arith, length-append, get_or-append-add}
+use Rattle.std.proofs.Common.{◌≡◌, ℕ, ◌+◌, ◌-◌, ◌*◌, ◌<◌, inl, inr, List, [], ◌∷◌, ◌++◌, length, drop, get_or, map, refl, sym, ap, ◌∙◌, subst, arith, length-append, get_or-append-add, Contains}
 use Rattle.std.specs.Prelude.{All, sum}
 use Rattle.std.specs.List.{concat}
 use Rattle.std.proofs.lemmas.List.{get_or_append_left, get_or_push}
-use Rattle.std.proofs.lemmas.List.Elements.{All-nil, All-head, All-tail, All-cons, All-append}
+use Rattle.std.proofs.lemmas.List.Elements.{All-nil, All-head, All-tail, All-cons, All-append, Contains-append_cases, Contains-append_left, Contains-append_right}
 use Rattle.std.proofs.Math.Seq.{take-append_seam, drop-append_seam}
+use Rattle.pm_perm.proofs.Contained.{contains_at, is_at}
 use Rattle.pm_perm.specs.Permutation.{IsPermutationList}
-use Rattle.pm_map.specs.Meeting.{Stands}
 use Rattle.pm_map.specs.Missing.{IsLeastMissing}
-use Rattle.pm_map.proofs.StandsLemmas.{Stands-append_left, Stands-append_right, cases_Stands}
 use Rattle.pm_perm.proofs.InverseLemmas.{standing_permutes}
 use Rattle.pm_mapfile.specs.MapFile.{MapLines, IsVertexLine, AreMapLines}
 use Rattle.pm_mapfile.specs.Vertices.{GoesAround, IsRotationOf}
@@ -48,25 +47,25 @@ turned_concat (v ∷ vertices) =
     ∙ ap (λ l. turned v ++ l) (turned_concat vertices)
 
 -- what stands on a line stands on it turned
-stands_turned : (v : List ℕ) (d : ℕ) → Stands v d → Stands (turned v) d
+stands_turned : (v : List ℕ) (d : ℕ) → Contains v d → Contains (turned v) d
 stands_turned [] d s = s
 stands_turned (x ∷ xs) d s =
-    elim (cases_Stands (x ∷ []) xs d s) [
-      | inl first ↦ Stands-append_right xs (x ∷ []) d first
-      | inr later ↦ Stands-append_left xs (x ∷ []) d later
+    elim (Contains-append_cases (x ∷ []) xs d s) [
+      | inl first ↦ Contains-append_right xs (x ∷ []) d first
+      | inr later ↦ Contains-append_left xs (x ∷ []) d later
     ]
 
-stands_turned_lines : (vertices : List (List ℕ)) (d : ℕ) → Stands (concat vertices) d → Stands (concat (map turned vertices)) d
+stands_turned_lines : (vertices : List (List ℕ)) (d : ℕ) → Contains (concat vertices) d → Contains (concat (map turned vertices)) d
 stands_turned_lines [] d s = s
 stands_turned_lines (v ∷ vertices) d s =
-    elim (cases_Stands v (concat vertices) d s) [
-      | inl here ↦ Stands-append_left (turned v) (concat (map turned vertices)) d (stands_turned v d here)
-      | inr later ↦ Stands-append_right (turned v) (concat (map turned vertices)) d (stands_turned_lines vertices d later)
+    elim (Contains-append_cases v (concat vertices) d s) [
+      | inl here ↦ Contains-append_left (turned v) (concat (map turned vertices)) d (stands_turned v d here)
+      | inr later ↦ Contains-append_right (turned v) (concat (map turned vertices)) d (stands_turned_lines vertices d later)
     ]
 
 -- every dart stands on a line
-pub carried_stand : (darts after sigma : List ℕ) → CarriesOn darts after sigma → (d : ℕ) → d < length darts → Stands darts d
-carried_stand darts after sigma c d h = let f = c.each d h in (f.place, record { within = f.within; here = f.here })
+pub carried_stand : (darts after sigma : List ℕ) → CarriesOn darts after sigma → (d : ℕ) → d < length darts → Contains darts d
+carried_stand darts after sigma c d h = let f = c.each d h in (contains_at _ _ f.place f.within f.here)
 
 -- so each place of the lines carries on
 pub carries_places : (darts after sigma : List ℕ) → CarriesOn darts after sigma → (place : ℕ) → place < length darts → get_or sigma (get_or darts place 0) 0 ≡ get_or after place 0
@@ -118,10 +117,10 @@ rotation_is_whole m sigma dart carries missing =
     let c : CarriesOn darts turns sigma = subst (λ l. CarriesOn darts l sigma) (turned_concat m.vertices) carries in
     let s = stands_turned_lines m.vertices dart (carried_stand darts turns sigma c dart (omega (arith, missing.within, c.size))) in
     let turns_length : length turns ≡ length darts = length-turns m.vertices in
-    let within : s.0 < length darts = omega (arith, s.1.within) in
+    let within : s.0 < length darts = omega (arith, s.1) in
     let permutes : IsPermutationList darts = standing_permutes darts (carried_stand darts turns sigma c) in
     let below : get_or darts s.0 0 < length darts = permutes.stays s.0 within in
-    missing.breaks (get_or darts s.0 0, record { within = omega (arith, c.size); here = carries_places darts turns sigma c s.0 within ∙ s.1.here }) where
+    missing.breaks (contains_at _ _ (get_or darts s.0 0) (omega (arith, c.size)) (carries_places darts turns sigma c s.0 within ∙ (is_at _ _ s))) where
       length-turns : (vertices : List (List ℕ)) → length (concat (map turned vertices)) ≡ length (concat vertices)
       length-turns [] = refl
       length-turns (v ∷ vertices) = omega (arith, length-append (turned v) (concat (map turned vertices)), length-append v (concat vertices), length-turned v, length-turns vertices)

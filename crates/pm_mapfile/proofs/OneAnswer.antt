@@ -1,10 +1,11 @@
 -- Bytes and a limit have one answer.
-use Rattle.std.proofs.Common.{◌≡◌, ℕ, suc, ◌-◌, ◌≤◌, inl, inr, List, [], ◌∷◌, ◌++◌, Option, Some, None, length, get_or, refl, sym, ap, ◌∙◌, subst, arith, Result, Ok, Err}
+use Rattle.std.proofs.Common.{◌≡◌, ℕ, suc, ◌-◌, ◌≤◌, inl, inr, List, [], ◌∷◌, ◌++◌, Option, Some, None, length, get_or, refl, sym, ap, ◌∙◌, subst, arith, Result, Ok, Err, Contains}
 use Rattle.std.specs.Prelude.{All, codes}
 use Rattle.std.specs.List.{concat}
 use Rattle.std.proofs.lemmas.Bool.{cases_lt}
 use Rattle.std.proofs.lemmas.List.{ext_get_or}
-use Rattle.std.proofs.lemmas.List.Elements.{All-head, All-tail}
+use Rattle.std.proofs.lemmas.List.Elements.{All-head, All-tail, Contains-append_cases}
+use Rattle.pm_perm.proofs.Contained.{is_at}
 use Rattle.pm_text.specs.Broken.{newline}
 use Rattle.pm_text.proofs.BrokenLemmas.{valid_has_no_broken_line, broken_line_is_unique}
 use Rattle.pm_lists.specs.ListLine.{SpellsList, list_line}
@@ -12,9 +13,7 @@ use Rattle.pm_lists.proofs.SpellingLemmas.{line_is_read_again, line_has_no_newli
 use Rattle.pm_map.specs.declared.rooted_map.RootedMap.{RootedMap}
 use Rattle.pm_map.specs.declared.refusal.MapRefusal.{MapRefusal}
 use Rattle.pm_map.specs.declared.refusal.MapRefusal.TheVariants.{Memory as MemoryOfMap, TooMany, NotPermutation, NotConnected, Genus}
-use Rattle.pm_map.specs.Meeting.{Stands}
 use Rattle.pm_map.specs.Parts.{IsMapAnswer}
-use Rattle.pm_map.proofs.StandsLemmas.{cases_Stands}
 use Rattle.pm_map.proofs.UniqueParts.{one_map_answer, least_missing_is_unique}
 use Rattle.pm_mapfile.specs.declared.refusal.FileRefusal.TheVariants.{Memory, Text, Map}
 use Rattle.pm_mapfile.specs.MapFile.{MapLines, lines_text, BeginsWithMapText, IsResidue, IsMapFile, IsSampleFile}
@@ -24,22 +23,22 @@ use Rattle.pm_mapfile.proofs.TailLemmas.{cut_alike}
 use Rattle.pm_mapfile.proofs.FormLemmas.{texts_alike}
 
 -- two rotations that go around the same lines agree on the darts of these
-agree_on : (sigma tau v : List ℕ) (d : ℕ) → GoesAround sigma v → GoesAround tau v → Stands v d → get_or sigma d 0 ≡ get_or tau d 0
+agree_on : (sigma tau v : List ℕ) (d : ℕ) → GoesAround sigma v → GoesAround tau v → Contains v d → get_or sigma d 0 ≡ get_or tau d 0
 agree_on sigma tau v d one other s =
     let here : get_or sigma (get_or v s.0 0) 0 ≡ get_or tau (get_or v s.0 0) 0 =
     elim (cases_lt (suc s.0) (length v)) [
       | inl inside ↦ one.goes s.0 inside ∙ sym (other.goes s.0 inside)
       | inr last ↦
-          let place : s.0 ≡ length v - 1 = omega (arith, s.1.within) in
+          let place : s.0 ≡ length v - 1 = omega (arith, s.1) in
           ap (λ n. get_or sigma (get_or v n 0) 0) place ∙ one.closes ∙ sym other.closes ∙ ap (λ n. get_or tau (get_or v n 0) 0) (sym place)
     ] in
-    ap (λ n. get_or sigma n 0) (sym s.1.here) ∙ here ∙ ap (λ n. get_or tau n 0) s.1.here
+    ap (λ n. get_or sigma n 0) (sym (is_at _ _ s)) ∙ here ∙ ap (λ n. get_or tau n 0) (is_at _ _ s)
 
-agree : (sigma tau : List ℕ) (vertices : List (List ℕ)) (d : ℕ) → All (GoesAround sigma) vertices → All (GoesAround tau) vertices → Stands (concat vertices) d
+agree : (sigma tau : List ℕ) (vertices : List (List ℕ)) (d : ℕ) → All (GoesAround sigma) vertices → All (GoesAround tau) vertices → Contains (concat vertices) d
     → get_or sigma d 0 ≡ get_or tau d 0
-agree sigma tau [] d one other s = absurd (omega (arith, s.1.within))
+agree sigma tau [] d one other s = absurd (omega (arith, s.1))
 agree sigma tau (v ∷ vertices) d one other s =
-    elim (cases_Stands v (concat vertices) d s) [
+    elim (Contains-append_cases v (concat vertices) d s) [
       | inl here ↦ agree_on sigma tau v d (All-head (GoesAround sigma) v vertices one) (All-head (GoesAround tau) v vertices other) here
       | inr later ↦ agree sigma tau vertices d (All-tail (GoesAround sigma) v vertices one) (All-tail (GoesAround tau) v vertices other) later
     ]

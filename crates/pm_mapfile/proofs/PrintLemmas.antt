@@ -1,10 +1,11 @@
 -- A vertex and a list of vertices, printed so far.
-use Rattle.std.proofs.Common.{◌≡◌, ◌≢◌, ℕ, ◌+◌, ◌-◌, ◌<◌, ◌≤◌, List, [], ◌∷◌, ◌++◌, length, get_or, refl, sym, ◌∙◌, ap, subst, arith, append_assoc, length-append}
+use Rattle.std.proofs.Common.{◌≡◌, ◌≢◌, ℕ, ◌+◌, ◌-◌, ◌<◌, ◌≤◌, List, [], ◌∷◌, ◌++◌, length, get_or, refl, sym, ◌∙◌, ap, subst, arith, append_assoc, length-append, Contains}
 use Rattle.std.specs.Prelude.{decimal, codes}
 use Rattle.std.proofs.lemmas.List.{append-nil, length_push, get_or-append_right, get_or_append_left}
+use Rattle.pm_perm.proofs.Contained.{contains_none}
 use Rattle.pm_perm.specs.Permutation.{IsPermutationBelow}
 use Rattle.pm_map.specs.Structure.{Structure}
-use Rattle.pm_map.specs.Meeting.{Stands, IsVertexFrom, darts_of, Meets, at_root, onward, IsMeetingList, no_dart, complete}
+use Rattle.pm_map.specs.Meeting.{IsVertexFrom, darts_of, Meets, at_root, onward, IsMeetingList, no_dart, complete}
 use Rattle.pm_map.proofs.UniqueMeeting.{vertex_begins, vertex_is_unique}
 use Rattle.pm_map.proofs.CarriedMeeting.{darts_of-append}
 use Rattle.pm_canon.specs.MeetingOrder.{HasEachOnce, IsMeetingOrder}
@@ -39,14 +40,11 @@ none_once s = let kept : IsKept s [] [] = IsKept-none s 0 in kept.once
 none_whole : (s : Structure) → IsWhole s []
 none_whole s = let kept : IsKept s [] [] = IsKept-none s 0 in kept.whole
 
-none_stands : (d : ℕ) → Stands [] d → ⊥
-none_stands d stands = let within : stands.0 < 0 = stands.1.within in omega arith
-
 pub IsPrinting-begins : (s : Structure) (start : ℕ) (old one text : List ℕ) → start < s.darts → one ≡ old ++ codes "v" → text ≡ one ++ dart_words (start ∷ []) → IsPrinting s start old text 1 (s.next start)
 IsPrinting-begins s start old one text below first second = record {
   way = start ∷ [];
   is_way = IsWay-one s start;
-  once = HasEachOnce-push s.darts [] start (none_once s) below (none_stands start);
+  once = HasEachOnce-push s.darts [] start (none_once s) below (contains_none start);
   size = refl;
   printed = second ∙ ap (λ l. l ++ dart_words (start ∷ [])) first ∙ append_assoc old (codes "v") (dart_words (start ∷ []));
 }
@@ -54,7 +52,7 @@ IsPrinting-begins s start old one text below first second = record {
 pub IsPrinting-step : (s : Structure) (start : ℕ) (old text new : List ℕ) (count dart : ℕ) → IsPermutationBelow s.darts s.next → IsPrinting s start old text count dart → dart ≢ start
     → new ≡ text ++ dart_words (dart ∷ []) → IsPrinting s start old new (count + 1) (s.next dart)
 IsPrinting-step s start old text new count dart turns p more added =
-    let fresh : Stands p.way dart → ⊥ = IsWay-fresh s [] start p.way dart turns (none_whole s) p.once p.is_way more in
+    let fresh : Contains p.way dart → ⊥ = IsWay-fresh s [] start p.way dart turns (none_whole s) p.once p.is_way more in
     record {
       way = p.way ++ dart ∷ [];
       is_way = IsWay-push s start p.way dart p.is_way more;

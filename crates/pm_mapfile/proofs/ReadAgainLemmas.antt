@@ -1,16 +1,17 @@
 -- The text of a map is read again as that map.
-use Rattle.std.proofs.Common.{◌≡◌, ℕ, ◌+◌, ◌*◌, ◌/◌, ◌%◌, ◌<◌, ◌≤◌, ◌^◌, List, [], ◌∷◌, ◌++◌, length, get_or, refl, sym, ap, ◌∙◌, subst, arith, Ok, inl, inr, length-append, get_or-append-add}
+use Rattle.std.proofs.Common.{◌≡◌, ℕ, ◌+◌, ◌*◌, ◌/◌, ◌%◌, ◌<◌, ◌≤◌, ◌^◌, List, [], ◌∷◌, ◌++◌, length, get_or, refl, sym, ap, ◌∙◌, subst, arith, Ok, inl, inr, length-append, get_or-append-add, Contains}
 use Rattle.std.specs.Prelude.{All, Some}
 use Rattle.std.specs.List.{concat}
 use Rattle.std.proofs.lemmas.Bool.{cases_lt}
 use Rattle.std.proofs.lemmas.Grind.{get_or_default_zero}
 use Rattle.std.proofs.lemmas.List.{get_or_append_left}
 use Rattle.std.proofs.lemmas.List.Elements.{All-nil, All-cons}
+use Rattle.pm_perm.proofs.Contained.{is_at}
 use Rattle.pm_perm.proofs.Permutations.{IsReached, pigeonhole}
 use Rattle.pm_perm.proofs.InverseLemmas.{place_of, place_of-value}
 use Rattle.pm_map.specs.Structure.{Structure, IsStructure, IsConnected}
 use Rattle.pm_map.specs.Rotation.{RotationSystem, structure_of, IsRootedMap}
-use Rattle.pm_map.specs.Meeting.{Stands, IsVertexFrom, darts_of, IsMeetingList}
+use Rattle.pm_map.specs.Meeting.{IsVertexFrom, darts_of, IsMeetingList}
 use Rattle.pm_map.proofs.UniqueMeeting.{vertex_begins}
 use Rattle.pm_map.proofs.CarriedMeeting.{AreBelow}
 use Rattle.pm_map.proofs.CanonicalNames.{meeting_list_below}
@@ -35,7 +36,7 @@ list_length s vertices structure connected is =
     let once = meeting_list_stands_once s vertices structure is in
     let at : ℕ → ℕ = λ k. get_or darts k 0 in
     let reached : (y : ℕ) → y < s.darts → IsReached at (length darts) y =
-    λ y h. (let stands = meeting_list_is_whole s vertices connected is y h in record { from = stands.0; below = stands.1.within; value = stands.1.here }) in
+    λ y h. (let stands = meeting_list_is_whole s vertices connected is y h in record { from = stands.0; below = stands.1; value = (is_at _ _ stands) }) in
     let place : ℕ → ℕ = place_of at (length darts) in
     let back : (y : ℕ) → y < s.darts → (place y < length darts) × (at (place y) ≡ y) = λ y h. place_of-value at (length darts) y (reached y h) in
     let few : length darts ≤ s.darts = pigeonhole at (length darts) s.darts below.below once.once in
@@ -120,7 +121,7 @@ lines_answered m limit text rooted few is =
       sigma = m.sigma;
       is_rotation = record {
         size = sym count ∙ ap length (darts_of-concat is.vertices);
-        stand = λ d h. subst (λ l. Stands l d) (darts_of-concat is.vertices) (meeting_list_is_whole s is.vertices rooted.connected is.is_list d h);
+        stand = λ d h. subst (λ l. Contains l d) (darts_of-concat is.vertices) (meeting_list_is_whole s is.vertices rooted.connected is.is_list d h);
         around = all_vertices_go_around m.sigma m.root is.vertices (AreVertices-list s is.vertices is.is_list);
       };
       answered = (refl, rooted);

@@ -7,6 +7,7 @@ use Rattle.std.proofs.lemmas.List.{drop_more, get_or-set_same, get_or-set_other,
 use Rattle.std.proofs.lemmas.List.Elements.{All-head, All-tail}
 use Rattle.std.proofs.lemmas.List.Sums.{sum_by-append}
 use Rattle.std.proofs.Math.Seq.{take-append_seam}
+use Rattle.pm_perm.proofs.Contained.{contains_at, is_at}
 use Rattle.pm_map.specs.declared.refusal.MapRefusal.{MapRefusal}
 use Rattle.pm_map.specs.declared.refusal.MapRefusal.TheVariants.{Memory, TooMany, NotPermutation, NotConnected, Genus}
 use Rattle.pm_map.proofs.MarksLemmas.{MatchOption-weaker}
@@ -247,11 +248,11 @@ told_rotation darts sizes followers (Err (NotPermutation dart)) are told =
     let within : dart < length darts = omega (arith, told.within, are.size) in
     record {
       within = within;
-      breaks = λ stands. not_followed darts (turned_lines sizes darts) (length darts) dart (get_or followers dart None) (are.each dart within) told.untold stands.0 stands.1.within stands.1.here;
+      breaks = λ stands. not_followed darts (turned_lines sizes darts) (length darts) dart (get_or followers dart None) (are.each dart within) told.untold stands.0 stands.1 (is_at _ _ stands);
       least = λ n less.
           let value = told.before n less in
           let f = followed darts (turned_lines sizes darts) (length darts) n value.0 (get_or followers n None) (are.each n (omega arith)) value.1 in
-          (f.place, record { within = f.within; here = f.here });
+          contains_at darts n f.place f.within f.here;
     }
 told_rotation darts sizes followers (Err Memory) are told = told
 told_rotation darts sizes followers (Err (TooMany edges)) are told = told

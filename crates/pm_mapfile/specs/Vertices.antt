@@ -1,7 +1,6 @@
 -- The rotation that the lines of a map text tell.
-use Rattle.std.specs.Prelude.{◌≡◌, ℕ, suc, ◌-◌, ◌<◌, List, All, length, slice_index}
+use Rattle.std.specs.Prelude.{◌≡◌, ℕ, suc, ◌-◌, ◌<◌, List, All, length, slice_index, Contains}
 use Rattle.std.specs.List.{concat}
-use Rattle.pm_map.specs.Meeting.{Stands}
 
 -- the rotation carries each dart of the line to the next one on it, and the last to the first
 pub record GoesAround (sigma vertex : List ℕ) : Type 0 where
@@ -11,5 +10,5 @@ pub record GoesAround (sigma vertex : List ℕ) : Type 0 where
 -- the rotation of the lines: it has as many darts as they, goes around each of them, and each of its darts stands on one
 pub record IsRotationOf (vertices : List (List ℕ)) (sigma : List ℕ) : Type 0 where
   pub size : length sigma ≡ length (concat vertices)
-  pub stand : (d : ℕ) → d < length sigma → Stands (concat vertices) d
+  pub stand : (d : ℕ) → d < length sigma → Contains (concat vertices) d
   pub around : All (GoesAround sigma) vertices

@@ -1,13 +1,13 @@
 -- The objects of a arity degree have numbers on end: those of a range come after the nodes of the ranges before it, and the leaf
 -- objects after all nodes. So a code tells their order.
-use Rattle.std.proofs.Common.{◌≡◌, ℕ, zero, suc, ◌+◌, ◌-◌, ◌<◌, ◌≤◌, ◌==◌, inl, inr, List, [], ◌∷◌, ◌++◌, length, map, get_or, All, take, drop, replicate, ap, sym, ◌∙◌, arith, append_assoc, drop-drop, length-append, eq-eqb, eqb-true}
+use Rattle.std.proofs.Common.{◌≡◌, ℕ, zero, suc, ◌+◌, ◌-◌, ◌<◌, ◌≤◌, ◌==◌, inl, inr, List, [], ◌∷◌, ◌++◌, length, map, get_or, All, take, drop, replicate, ap, sym, ◌∙◌, arith, append_assoc, drop-drop, length-append, eq-eqb, eqb-true, Contains}
 use Rattle.std.specs.Prelude.{count_by, flat_map, slice_index}
 use Rattle.std.specs.List.{sum_by}
 use Rattle.std.proofs.lemmas.Bool.{cases_lt}
 use Rattle.std.proofs.lemmas.List.{length-map, length-replicate, get_or-map, get_or-replicate, get_or_append_left, get_or-append_right, get_or_past, get_or_default, ext_get_or, take_at, drop_at}
 use Rattle.std.proofs.lemmas.List.Elements.{filter_passes}
 use Rattle.std.proofs.lemmas.List.Sums.{length-filter, sum_by-cons}
-use Rattle.pm_perm.specs.Lists.{Stands}
+use Rattle.pm_perm.proofs.Contained.{contains_at, is_at}
 use Rattle.pm_perm.specs.Permutation.{IsPermutationList}
 use Rattle.pm_perm.proofs.InverseLemmas.{standing_permutes}
 use Rattle.pm_perm.proofs.Permutations.{reached}
@@ -102,19 +102,13 @@ module _ (arities objects : List ℕ) (arity first count : ℕ) (permute : IsPer
   unfolding shifted
   shifted_long = length-map (objects_of arities arity objects) (λ (object : ℕ). object - first) ∙ length-filter (λ object. arity_of arities object == arity) objects ∙ many
 
-  stands : (n : ℕ) → n < length shifted → Stands shifted n
+  stands : (n : ℕ) → n < length shifted → Contains shifted n
   unfolding shifted
   stands n less =
       let at = reached (slice_index objects) (length objects) (first + n) permute (omega (arith, less, shifted_long, inside)) in
-      let kept = stands_kept (λ object. arity_of arities object == arity) objects (first + n) (at.from, record { within = at.below; here = at.value })
+      let kept = stands_kept (λ object. arity_of arities object == arity) objects (first + n) (contains_at _ _ at.from at.below at.value)
       (eq-eqb (arity_of arities (first + n)) arity (here (first + n) (omega arith) (omega (arith, less, shifted_long)))) in
-      let is = kept.1.here in (
-        kept.0,
-        record {
-          within = let l = length-map (objects_of arities arity objects) (λ (object : ℕ). object - first) in let w = kept.1.within in omega (arith, l, w);
-          here = get_or-map (λ (object : ℕ). object - first) (objects_of arities arity objects) kept.0 0 0 kept.1.within ∙ ap (λ (object : ℕ). object - first) is ∙ omega arith;
-        },
-      )
+      let is = (is_at _ _ kept) in (contains_at _ _ kept.0 (let l = length-map (objects_of arities arity objects) (λ (object : ℕ). object - first) in let w = kept.1 in omega (arith, l, w)) (get_or-map (λ (object : ℕ). object - first) (objects_of arities arity objects) kept.0 0 0 kept.1 ∙ ap (λ (object : ℕ). object - first) is ∙ omega arith))
 
   shifted_permutes : IsPermutationList shifted
   shifted_permutes = standing_permutes shifted stands

@@ -1,5 +1,5 @@
 -- The objects of ranges with given arities in preorder and given codes by range, and their arrangement.
-use Rattle.std.proofs.Common.{◌≡◌, ℕ, ◌+◌, ◌-◌, ◌<◌, ◌≤◌, ◌==◌, Bool, inl, inr, List, [], ◌++◌, length, map, filter, get_or, All, drop, take, refl, ap, ap₂, sym, ◌∙◌, subst, arith, length-append, length-drop, take-append-drop, eq-eqb, eqb-true}
+use Rattle.std.proofs.Common.{◌≡◌, ℕ, ◌+◌, ◌-◌, ◌<◌, ◌≤◌, ◌==◌, Bool, inl, inr, List, [], ◌++◌, length, map, filter, get_or, All, drop, take, refl, ap, ap₂, sym, ◌∙◌, subst, arith, length-append, length-drop, take-append-drop, eq-eqb, eqb-true, Contains}
 use Rattle.std.specs.Prelude.{count_by, slice_index}
 use Rattle.std.specs.List.Sorted.{IsStrictlyIncreasing}
 use Rattle.std.proofs.lemmas.Bool.{cases_eq}
@@ -8,7 +8,7 @@ use Rattle.std.proofs.lemmas.List.Elements.{All-map, filter_passes}
 use Rattle.std.proofs.lemmas.List.FromFn.{length-range_with_len, get_or-range_with_len}
 use Rattle.std.proofs.lemmas.List.Kept.{AllPairs-from_increasing, IsStrictlyIncreasing-filter}
 use Rattle.std.proofs.lemmas.List.Sums.{length-filter}
-use Rattle.pm_perm.specs.Lists.{Stands}
+use Rattle.pm_perm.proofs.Contained.{contains_at, is_at}
 use Rattle.pm_perm.specs.Permutation.{IsPermutationList}
 use Rattle.pm_perm.proofs.InverseLemmas.{standing_permutes}
 use Rattle.pm_perm.proofs.Permutations.{reached}
@@ -38,7 +38,7 @@ turned_permutes start xs permute few =
     standing_permutes (turned start xs)
     (λ n inside.
     let at = reached (slice_index xs) (length xs) n permute (let l = length-turned start xs few in omega (arith, inside, l)) in
-    stands_turned start xs n (at.from, record { within = at.below; here = at.value }))
+    stands_turned start xs n (contains_at _ _ at.from at.below at.value))
 
 numbers_rise : (n : ℕ) → IsStrictlyIncreasing (numbers n)
 numbers_rise n k within =
@@ -166,29 +166,23 @@ module _ (ranges : List (ℕ × ℕ)) (leaves : ℕ) (are : AreApart ranges) (ar
   sorted = sorting_exists (arity_of (arities_of ranges)) arities list list_long list_arities
 
   -- each object stands in the list of its arity degree
-  in_block : (object : ℕ) → object < nodes_of_ranges ranges + leaves → Stands (block (arity_of (arities_of ranges) object)) object
+  in_block : (object : ℕ) → object < nodes_of_ranges ranges + leaves → Contains (block (arity_of (arities_of ranges) object)) object
   unfolding block
   in_block object less =
       stands_kept (λ o. arity_of (arities_of ranges) o == arity_of (arities_of ranges) object) (numbers (nodes_of_ranges ranges + leaves)) object
-      (object, record { within = let long = length-range_with_len 0 (nodes_of_ranges ranges + leaves) in omega (arith, less, long); here = let e = get_or-range_with_len 0 (nodes_of_ranges ranges + leaves) object 0 less in omega (arith, e) })
+      (contains_at _ _ object (let long = length-range_with_len 0 (nodes_of_ranges ranges + leaves) in omega (arith, less, long)) (let e = get_or-range_with_len 0 (nodes_of_ranges ranges + leaves) object 0 less in omega (arith, e)))
       (eq-eqb (arity_of (arities_of ranges) object) (arity_of (arities_of ranges) object) refl)
 
-  in_list : (arity object : ℕ) → Stands (block arity) object → Stands (list arity) object
+  in_list : (arity object : ℕ) → Contains (block arity) object → Contains (list arity) object
   in_list arity object stands =
-      let at = reached (slice_index (order arity)) (length (order arity)) stands.0 (order_is arity).is_permutation (let w = stands.1.within in omega (arith, w, order_long arity)) in
-      let here = stands.1.here in
-      subst (λ (objects : List ℕ). Stands objects object) (sym (list_is arity)) (
-        at.from,
-        record {
-          within = let long = length-map (order arity) (slice_index (block arity)) in let b = at.below in omega (arith, long, b);
-          here = get_or-map (slice_index (block arity)) (order arity) at.from 0 0 at.below ∙ ap (slice_index (block arity)) at.value ∙ here;
-        },
-      )
+      let at = reached (slice_index (order arity)) (length (order arity)) stands.0 (order_is arity).is_permutation (let w = stands.1 in omega (arith, w, order_long arity)) in
+      let here = (is_at _ _ stands) in
+      subst (λ (objects : List ℕ). Contains objects object) (sym (list_is arity)) (contains_at _ _ at.from (let long = length-map (order arity) (slice_index (block arity)) in let b = at.below in omega (arith, long, b)) (get_or-map (slice_index (block arity)) (order arity) at.from 0 0 at.below ∙ ap (slice_index (block arity)) at.value ∙ here))
 
-  stands : (object : ℕ) → object < nodes_of_ranges ranges + leaves → Stands sorted.0 object
+  stands : (object : ℕ) → object < nodes_of_ranges ranges + leaves → Contains sorted.0 object
   stands object less =
       stands_before (λ o. arity_of (arities_of ranges) o == arity_of (arities_of ranges) object) sorted.0 object
-      (subst (λ (objects : List ℕ). Stands objects object) (sym (sorted.1.lists_are (arity_of (arities_of ranges) object))) (in_list (arity_of (arities_of ranges) object) object (in_block object less)))
+      (subst (λ (objects : List ℕ). Contains objects object) (sym (sorted.1.lists_are (arity_of (arities_of ranges) object))) (in_list (arity_of (arities_of ranges) object) object (in_block object less)))
 
   sorted_long : length sorted.0 ≡ nodes_of_ranges ranges + leaves
   sorted_long =

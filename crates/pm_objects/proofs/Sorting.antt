@@ -1,12 +1,12 @@
 -- A list is told by the keys of its entries and, for each key, by the entries with it in their order.
-use Rattle.std.proofs.Common.{◌≡◌, ◌⊎◌, ℕ, zero, suc, ◌<◌, ◌==◌, Bool, true, false, cond, inl, inr, List, [], ◌∷◌, ◌++◌, take, drop, take-append-drop, length, map, filter, All, refl, ap, sym, ◌∙◌, subst, arith, eq-eqb, ne_eqb}
+use Rattle.std.proofs.Common.{◌≡◌, ℕ, zero, suc, ◌<◌, ◌==◌, Bool, true, false, cond, inl, inr, List, [], ◌∷◌, take, drop, take-append-drop, length, map, filter, All, refl, ap, sym, ◌∙◌, subst, arith, eq-eqb, ne_eqb, Contains}
 use Rattle.std.specs.Prelude.{count_by, slice_index}
 use Rattle.std.specs.List.{sum_by}
 use Rattle.std.proofs.lemmas.Bool.{cases_eq, cases_Bool}
 use Rattle.std.proofs.lemmas.List.{nil_from_length, get_or-map}
-use Rattle.std.proofs.lemmas.List.Elements.{All-head, All-tail}
+use Rattle.std.proofs.lemmas.List.Elements.{All-head, All-tail, Contains-append_cases, Contains-append_left, Contains-append_right}
 use Rattle.std.proofs.lemmas.List.Sums.{sum_by-cons}
-use Rattle.pm_perm.specs.Lists.{Stands}
+use Rattle.pm_perm.proofs.Contained.{contains_cases, contains_first, contains_later}
 use Rattle.pm_words.specs.Word.{turned}
 
 -- the entries with this key, as they come
@@ -116,47 +116,33 @@ sorting_exists key (k ∷ keys) lists long each =
       sorted_more key k keys lists some.0 some.1 some.2 h.0 (All-head (λ entry. key entry ≡ k) some.0 some.1 (first_keys key k keys lists some.0 some.1 some.2 each)) h.1,
     )
 
--- what stands in the rest stands in the list
-stands_later : (x n : ℕ) (xs : List ℕ) → Stands xs n → Stands (x ∷ xs) n
-stands_later x n xs s = (suc s.0, record { within = let w = s.1.within in omega (arith, w); here = s.1.here })
-
-stands_first : (x n : ℕ) (xs : List ℕ) → x ≡ n → Stands (x ∷ xs) n
-stands_first x n xs e = (0, record { within = omega arith; here = e })
-
--- the first entry, or another one
-stands_cases : (x n : ℕ) (xs : List ℕ) → Stands (x ∷ xs) n → (x ≡ n) ⊎ Stands xs n
-stands_cases x n xs s = by_place s.0 s.1.within s.1.here where
-  by_place : (place : ℕ) → place < length (x ∷ xs) → slice_index (x ∷ xs) place ≡ n → (x ≡ n) ⊎ Stands xs n
-  by_place zero within here = inl here
-  by_place (suc place) within here = inr (place, record { within = omega (arith, within); here = here })
-
 filter_true : (p : ℕ → Bool) (x : ℕ) (xs : List ℕ) → p x ≡ true → filter p (x ∷ xs) ≡ x ∷ filter p xs
 filter_true p x xs e = rw e refl
 
 filter_false : (p : ℕ → Bool) (x : ℕ) (xs : List ℕ) → p x ≡ false → filter p (x ∷ xs) ≡ filter p xs
 filter_false p x xs e = rw e refl
 
-pub stands_kept : (p : ℕ → Bool) (xs : List ℕ) (n : ℕ) → Stands xs n → p n ≡ true → Stands (filter p xs) n
+pub stands_kept : (p : ℕ → Bool) (xs : List ℕ) (n : ℕ) → Contains xs n → p n ≡ true → Contains (filter p xs) n
 stands_kept p [] n s passes = s
 stands_kept p (x ∷ xs) n s passes = elim (cases_Bool (p x)) [
-  | inl kept ↦ subst (λ (list : List ℕ). Stands list n) (sym (filter_true p x xs kept)) (elim (stands_cases x n xs s) [
-    | inl here ↦ stands_first x n (filter p xs) here
-    | inr later ↦ stands_later x n (filter p xs) (stands_kept p xs n later passes)
+  | inl kept ↦ subst (λ (list : List ℕ). Contains list n) (sym (filter_true p x xs kept)) (elim (contains_cases x xs n s) [
+    | inl here ↦ contains_first x n (filter p xs) here
+    | inr later ↦ contains_later x (filter p xs) n (stands_kept p xs n later passes)
   ])
-  | inr dropped ↦ subst (λ (list : List ℕ). Stands list n) (sym (filter_false p x xs dropped)) (elim (stands_cases x n xs s) [
+  | inr dropped ↦ subst (λ (list : List ℕ). Contains list n) (sym (filter_false p x xs dropped)) (elim (contains_cases x xs n s) [
     | inl here ↦ (let t : true ≡ false = sym passes ∙ ap p (sym here) ∙ dropped in cc)
     | inr later ↦ stands_kept p xs n later passes
   ])
 ]
 
-pub stands_before : (p : ℕ → Bool) (xs : List ℕ) (n : ℕ) → Stands (filter p xs) n → Stands xs n
+pub stands_before : (p : ℕ → Bool) (xs : List ℕ) (n : ℕ) → Contains (filter p xs) n → Contains xs n
 stands_before p [] n s = s
 stands_before p (x ∷ xs) n s = elim (cases_Bool (p x)) [
-  | inl kept ↦ elim (stands_cases x n (filter p xs) (subst (λ (list : List ℕ). Stands list n) (filter_true p x xs kept) s)) [
-    | inl here ↦ stands_first x n xs here
-    | inr later ↦ stands_later x n xs (stands_before p xs n later)
+  | inl kept ↦ elim (contains_cases x (filter p xs) n (subst (λ (list : List ℕ). Contains list n) (filter_true p x xs kept) s)) [
+    | inl here ↦ contains_first x n xs here
+    | inr later ↦ contains_later x xs n (stands_before p xs n later)
   ]
-  | inr dropped ↦ stands_later x n xs (stands_before p xs n (subst (λ (list : List ℕ). Stands list n) (filter_false p x xs dropped) s))
+  | inr dropped ↦ contains_later x xs n (stands_before p xs n (subst (λ (list : List ℕ). Contains list n) (filter_false p x xs dropped) s))
 ]
 
 -- a sum over the entries that are kept
@@ -177,30 +163,11 @@ sum_by-kept f p (x ∷ xs) =
           omega (arith, a, b, d, h)
     ]
 
--- what stands in one of two lists stands in both together
-stands_front : (xs ys : List ℕ) (n : ℕ) → Stands xs n → Stands (xs ++ ys) n
-stands_front [] ys n s = absurd (let w = s.1.within in omega (arith, w))
-stands_front (x ∷ xs) ys n s = elim (stands_cases x n xs s) [
-  | inl here ↦ stands_first x n (xs ++ ys) here
-  | inr later ↦ stands_later x n (xs ++ ys) (stands_front xs ys n later)
-]
-
-stands_back : (xs ys : List ℕ) (n : ℕ) → Stands ys n → Stands (xs ++ ys) n
-stands_back [] ys n s = s
-stands_back (x ∷ xs) ys n s = stands_later x n (xs ++ ys) (stands_back xs ys n s)
-
-stands_in_one : (xs ys : List ℕ) (n : ℕ) → Stands (xs ++ ys) n → Stands xs n ⊎ Stands ys n
-stands_in_one [] ys n s = inr s
-stands_in_one (x ∷ xs) ys n s = elim (stands_cases x n (xs ++ ys) s) [
-  | inl here ↦ inl (stands_first x n xs here)
-  | inr later ↦ elim (stands_in_one xs ys n later) [ inl a ↦ inl (stands_later x n xs a) | inr b ↦ inr b ]
-]
-
 -- a list that is turned has the same entries
-pub stands_turned : (start : ℕ) (xs : List ℕ) (n : ℕ) → Stands xs n → Stands (turned start xs) n
-stands_turned start xs n s = elim (stands_in_one (take start xs) (drop start xs) n (subst (λ (list : List ℕ). Stands list n) (sym (take-append-drop start xs)) s)) [
-  | inl front ↦ stands_back (drop start xs) (take start xs) n front
-  | inr back ↦ stands_front (drop start xs) (take start xs) n back
+pub stands_turned : (start : ℕ) (xs : List ℕ) (n : ℕ) → Contains xs n → Contains (turned start xs) n
+stands_turned start xs n s = elim (Contains-append_cases (take start xs) (drop start xs) n (subst (λ (list : List ℕ). Contains list n) (sym (take-append-drop start xs)) s)) [
+  | inl front ↦ Contains-append_right (drop start xs) (take start xs) n front
+  | inr back ↦ Contains-append_left (drop start xs) (take start xs) n back
 ]
 
 -- an entry is found in the list of its key, behind the earlier entries with this key

@@ -1,8 +1,8 @@
 -- What the marks of a check tell: which numbers stood so far, and whether each stood once.
-use Rattle.std.proofs.Common.{◌≡◌, ℕ, ◌+◌, ◌<◌, ◌⊎◌, ◌↔◌, inl, inr, Bool, true, false, ◌&&◌, List, length, get_or, set, slice_index, IsTrue, sym, ap, ◌∙◌, refl, arith, rules, get_or-set_same, get_or-set_other}
+use Rattle.std.proofs.Common.{◌≡◌, ℕ, ◌+◌, ◌<◌, ◌⊎◌, ◌↔◌, inl, inr, Bool, true, false, ◌&&◌, List, length, get_or, set, slice_index, IsTrue, sym, ap, ◌∙◌, refl, arith, rules, get_or-set_same, get_or-set_other, Contains}
 use Rattle.std.proofs.lemmas.Bool.{cases_eq}
+use Rattle.pm_perm.proofs.Contained.{contains_at, is_at}
 use Rattle.pm_perm.specs.Permutation.{IsPermutationList}
-use Rattle.pm_perm.specs.Lists.{Stands}
 use Rattle.pm_perm.proofs.Permutations.{IsReached}
 
 -- the numbers below the count are sent to different places below the size
@@ -132,11 +132,11 @@ checked-answer values count marks all e c = (λ t. whole values count marks all 
       record { stays = λ k h. p.stays k (omega (arith, h, e)); injective = λ j k hj hk. p.injective j k (omega (arith, hj, e)) (omega (arith, hk, e)) }
 
 pub checked-standing : (values : List ℕ) (count : ℕ) (marks : List Bool) (all : Bool) → count ≡ length values → IsChecked values count marks all
-    → (number : ℕ) → number < length values → (get_or marks number false ≡ true) ↔ Stands values number
+    → (number : ℕ) → number < length values → (get_or marks number false ≡ true) ↔ Contains values number
 checked-standing values count marks all e c number h = (
-  λ m. (let r : IsReached (slice_index values) count number = c.found number h m in (r.from, record { within = omega (arith, r.below, e); here = r.value })),
+  λ m. (let r : IsReached (slice_index values) count number = c.found number h m in (contains_at _ _ r.from (omega (arith, r.below, e)) r.value)),
   λ s. back values count marks all number h e c s,
 ) where
-  back : (values : List ℕ) (count : ℕ) (marks : List Bool) (all : Bool) (number : ℕ) → number < length values → count ≡ length values → IsChecked values count marks all → Stands values number → get_or marks number false ≡ true
+  back : (values : List ℕ) (count : ℕ) (marks : List Bool) (all : Bool) (number : ℕ) → number < length values → count ≡ length values → IsChecked values count marks all → Contains values number → get_or marks number false ≡ true
   back values count marks all number h e c s =
-      sym (ap (λ v. get_or marks v false) s.1.here) ∙ c.marked s.0 (omega (arith, s.1.within, e)) (omega (arith, s.1.here, h))
+      sym (ap (λ v. get_or marks v false) (is_at _ _ s)) ∙ c.marked s.0 (omega (arith, s.1, e)) (omega (arith, (is_at _ _ s), h))

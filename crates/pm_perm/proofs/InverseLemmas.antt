@@ -1,8 +1,8 @@
 -- The inverse of a permutation below a bound, as a function.
-use Rattle.std.proofs.Common.{◌≡◌, ℕ, zero, suc, ◌<◌, cond, eqb, List, length, get_or, sym, ap, subst, ◌∙◌, inl, inr, eq-eqb, ne_eqb, arith}
+use Rattle.std.proofs.Common.{◌≡◌, ℕ, zero, suc, ◌<◌, cond, eqb, List, length, get_or, sym, ap, subst, ◌∙◌, inl, inr, eq-eqb, ne_eqb, arith, Contains}
 use Rattle.std.proofs.lemmas.Bool.{cases_eq, cond-true, cond-false}
+use Rattle.pm_perm.proofs.Contained.{is_at}
 use Rattle.pm_perm.specs.Permutation.{IsPermutationBelow, IsPermutationList}
-use Rattle.pm_perm.specs.Lists.{Stands}
 use Rattle.pm_perm.proofs.Permutations.{IsReached, reached}
 
 -- the number below the bound whose value is y, 0 where there is none
@@ -62,7 +62,7 @@ onto_permutes bound f onto =
     }
 
 -- a list in which each number below its length stands is a permutation
-pub standing_permutes : (values : List ℕ) → ((n : ℕ) → n < length values → Stands values n) → IsPermutationList values
+pub standing_permutes : (values : List ℕ) → ((n : ℕ) → n < length values → Contains values n) → IsPermutationList values
 standing_permutes values all =
     onto_permutes (length values) (λ k. get_or values k 0)
-    (λ y h. let s = all y h in record { from = s.0; below = s.1.within; value = s.1.here })
+    (λ y h. let s = all y h in record { from = s.0; below = s.1; value = (is_at _ _ s) })

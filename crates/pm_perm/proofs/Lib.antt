@@ -1,5 +1,6 @@
 pub mod BothNested
 mod Checks
+pub mod Contained
 pub mod Counts
 pub mod EvenCounts
 pub mod CycleLists

@@ -2,15 +2,6 @@
 use Rattle.std.specs.Prelude.{◌≡◌, ℕ, ◌<◌, List, length, slice_index}
 use Rattle.pm_perm.specs.Cycles.{leader, IsLeastInCycle}
 
--- the number stands in the list, at this place
-pub record StandsAt (values : List ℕ) (place number : ℕ) : Type 0 where
-  pub within : place < length values
-  pub here : slice_index values place ≡ number
-
--- the number stands in the list
-abbrev pub Stands : List ℕ → ℕ → Type 0
-Stands values number = (place : ℕ) × StandsAt values place number
-
 -- the inverse of a permutation: at each value it has the place where that value stands
 pub record IsInverseList (values inverse : List ℕ) : Type 0 where
   pub same_length : length inverse ≡ length values

@@ -1,7 +1,6 @@
 //! Whether a list is a permutation.
-ghost use Rattle.std.specs.Prelude.{◌≡◌, ◌↔◌, ℕ, ◌^◌, ◌<◌, false, true, length, slice_index_or, slice_set, IsTrue};
+ghost use Rattle.std.specs.Prelude.{◌≡◌, ◌↔◌, ℕ, ◌^◌, ◌<◌, false, true, length, slice_index_or, slice_set, IsTrue, Contains};
 ghost use Rattle.pm_perm.specs.Permutation.{IsPermutationList};
-ghost use Rattle.pm_perm.specs.Lists.{Stands};
 
 /// Whether each number below the length stands once in the list, of fewer than 2^32 entries. There are as many marks
 /// as entries; mark k is left set exactly where the number k stands in the list.
@@ -10,7 +9,7 @@ pub fn is_permutation(values: &[u32], marks: &mut [bool]) -> bool
     requires marks_length { length marks.old ≡ length values.now }
 
     ensures answer { IsTrue result ↔ IsPermutationList values.now }
-    ensures marked { (number : ℕ) → number < length values.now → (slice_index_or marks.new number false ≡ true) ↔ Stands values.now number }
+    ensures marked { (number : ℕ) → number < length values.now → (slice_index_or marks.new number false ≡ true) ↔ Contains values.now number }
 {
     marks.fill(false);
     let mut all_fresh = true;

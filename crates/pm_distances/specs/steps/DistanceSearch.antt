@@ -1,9 +1,8 @@
 -- The search for the distances of the faces. Marked darts are found; all that are found stand in a list, those of a face
 -- together and the nearest face first; and the edges of the darts before a place have been gone over.
-use Rattle.std.specs.Prelude.{◌≡◌, ℕ, suc, ◌*◌, ◌<◌, ◌≤◌, ◌⊎◌, Bool, List, ◌++◌, length, slice_index}
+use Rattle.std.specs.Prelude.{◌≡◌, ℕ, suc, ◌*◌, ◌<◌, ◌≤◌, ◌⊎◌, Bool, List, ◌++◌, length, slice_index, Contains}
 use Rattle.pm_map.specs.Structure.{Structure, face_next}
 use Rattle.pm_map.specs.Rotation.{RotationSystem, structure_of, twin}
-use Rattle.pm_map.specs.Meeting.{Stands}
 use Rattle.pm_map.specs.steps.Marks.{IsMarked}
 use Rattle.pm_map.specs.steps.Search.{work_left, WalksFace}
 use Rattle.pm_map.specs.FaceDistance.{AreInOneFace}
@@ -17,7 +16,7 @@ pub record WritesFace (sigma : List ℕ) (start distance dart : ℕ) (marks : Li
   pub written : (d : ℕ) → IsMarked marks_after d → IsMarked marks d ⊎ (slice_index distances_after d ≡ distance)
   pub added : List ℕ
   pub order : darts_after ≡ darts ++ added
-  pub level : (d : ℕ) → Stands added d → slice_index distances_after d ≡ distance
+  pub level : (d : ℕ) → Contains added d → slice_index distances_after d ≡ distance
 
 -- the walk stands at a marked dart
 pub record FindsFace (sigma : List ℕ) (start distance : ℕ) (marks : List Bool) (distances darts : List ℕ) (marks_after : List Bool) (distances_after darts_after : List ℕ) : Type 0 where
@@ -27,9 +26,9 @@ pub record FindsFace (sigma : List ℕ) (start distance : ℕ) (marks : List Boo
 
 -- the darts that are marked are those of the list
 pub record IsListed (s : Structure) (marks : List Bool) (darts : List ℕ) : Type 0 where
-  pub below : (d : ℕ) → Stands darts d → d < s.darts
-  pub marked : (d : ℕ) → Stands darts d → IsMarked marks d
-  pub stands : (d : ℕ) → IsMarked marks d → Stands darts d
+  pub below : (d : ℕ) → Contains darts d → d < s.darts
+  pub marked : (d : ℕ) → Contains darts d → IsMarked marks d
+  pub stands : (d : ℕ) → IsMarked marks d → Contains darts d
 
 -- faces are found whole, with one distance for all their darts
 pub record FindsWhole (s : Structure) (marks : List Bool) (distances : List ℕ) : Type 0 where

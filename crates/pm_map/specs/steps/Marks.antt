@@ -1,7 +1,6 @@
 -- Marks: a list of truth values that stands for a set of numbers.
-use Rattle.std.specs.Prelude.{◌≡◌, ℕ, ◌<◌, Bool, false, IsTrue, List, length, slice_index, slice_index_or}
+use Rattle.std.specs.Prelude.{◌≡◌, ℕ, ◌<◌, Bool, false, IsTrue, List, length, slice_index, slice_index_or, Contains}
 use Rattle.pm_perm.specs.Least.{IsLeast}
-use Rattle.pm_map.specs.Meeting.{Stands}
 
 -- the number is marked
 abbrev pub IsMarked : List Bool → ℕ → Type 0
@@ -22,4 +21,4 @@ IsLeastUnmarked marks n = IsLeast (length marks) (IsMarked marks) (λ k. slice_i
 -- the first values of the list are marked, as far as the marks go, and nothing but values of the list
 pub record MarksValues (values : List ℕ) (count : ℕ) (marks : List Bool) : Type 0 where
   pub marked : (k : ℕ) → k < count → slice_index values k < length marks → IsMarked marks (slice_index values k)
-  pub stands : (n : ℕ) → IsMarked marks n → Stands values n
+  pub stands : (n : ℕ) → IsMarked marks n → Contains values n

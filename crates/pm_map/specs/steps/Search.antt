@@ -1,17 +1,16 @@
 -- The search for the darts that the root reaches, face by face: marked darts were met, and those on the stack wait.
-use Rattle.std.specs.Prelude.{◌≡◌, ℕ, ◌+◌, ◌<◌, ◌≤◌, ◌⊎◌, ◌&&◌, Bool, false, eqb, List, length, slice_index_or, sum_by, if◌then◌else◌}
+use Rattle.std.specs.Prelude.{◌≡◌, ℕ, ◌+◌, ◌<◌, ◌≤◌, ◌⊎◌, ◌&&◌, Bool, false, eqb, List, length, slice_index_or, sum_by, if◌then◌else◌, Contains}
 use Rattle.pm_perm.specs.Count.{count_below}
 use Rattle.pm_perm.specs.Cycles.{leader, IsInCycle}
 use Rattle.pm_map.specs.Structure.{Structure, face_next}
 use Rattle.pm_map.specs.Rotation.{face_step}
-use Rattle.pm_map.specs.Meeting.{Stands}
 use Rattle.pm_map.specs.steps.Marks.{IsMarked}
 use Rattle.pm_map.specs.Reached.{IsReached}
 
 -- waiting darts are marked; the faces of marked darts are marked and reached, and this is their number
 pub record MarksFaces (s : Structure) (marks : List Bool) (stack : List ℕ) (faces : ℕ) : Type 0 where
-  pub below : (d : ℕ) → Stands stack d → d < s.darts
-  pub waiting : (d : ℕ) → Stands stack d → IsMarked marks d
+  pub below : (d : ℕ) → Contains stack d → d < s.darts
+  pub waiting : (d : ℕ) → Contains stack d → IsMarked marks d
   pub whole : (d : ℕ) → d < s.darts → IsMarked marks d → IsMarked marks (face_next s d)
   pub reached : (d : ℕ) → IsMarked marks d → IsReached s d
   pub counted : faces ≡ count_below (λ d. slice_index_or marks d false && eqb (leader s.darts (face_next s) d) d) s.darts
@@ -19,7 +18,7 @@ pub record MarksFaces (s : Structure) (marks : List Bool) (stack : List ℕ) (fa
 -- the root is marked, and each marked dart waits, or its twin is marked
 pub record IsSearch (s : Structure) (marks : List Bool) (stack : List ℕ) (faces : ℕ) : Type 0 where
   pub root : IsMarked marks s.root
-  pub done : (d : ℕ) → d < s.darts → IsMarked marks d → Stands stack d ⊎ IsMarked marks (s.twin d)
+  pub done : (d : ℕ) → d < s.darts → IsMarked marks d → Contains stack d ⊎ IsMarked marks (s.twin d)
   pub marked : MarksFaces s marks stack faces
 
 -- what is left to do: two for each dart that isn't marked, and one for each that waits
@@ -34,9 +33,9 @@ pub record WalksFace (sigma : List ℕ) (start dart : ℕ) (marks : List Bool) (
   pub around : IsInCycle (face_step sigma) start dart
   pub begun : IsMarked marks_after start ⊎ (start ≡ dart)
   pub kept : (e : ℕ) → IsMarked marks e → IsMarked marks_after e
-  pub fresh : (e : ℕ) → IsMarked marks_after e → IsMarked marks e ⊎ (Stands stack_after e × IsInCycle (face_step sigma) start e)
-  pub stacked : (e : ℕ) → Stands stack e → Stands stack_after e
-  pub only : (e : ℕ) → Stands stack_after e → Stands stack e ⊎ (IsMarked marks_after e × IsInCycle (face_step sigma) start e)
+  pub fresh : (e : ℕ) → IsMarked marks_after e → IsMarked marks e ⊎ (Contains stack_after e × IsInCycle (face_step sigma) start e)
+  pub stacked : (e : ℕ) → Contains stack e → Contains stack_after e
+  pub only : (e : ℕ) → Contains stack_after e → Contains stack e ⊎ (IsMarked marks_after e × IsInCycle (face_step sigma) start e)
   pub leads : (e : ℕ) → IsMarked marks_after e → IsMarked marks e ⊎ (IsMarked marks_after (face_step sigma e) ⊎ (face_step sigma e ≡ dart))
   pub work : work_left marks_after stack_after ≤ work_left marks stack
 

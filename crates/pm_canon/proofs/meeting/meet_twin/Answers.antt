@@ -1,10 +1,9 @@
-use Rattle.std.proofs.Common.{◌≡◌, ◌<◌, ◌∙◌, ap, sym, subst, length, get_or, vec_len, arith, false, Some, Result, Ok, Err}
+use Rattle.std.proofs.Common.{◌≡◌, ◌<◌, ◌∙◌, ap, sym, subst, length, get_or, vec_len, arith, false, Some, Result, Ok, Err, Contains}
 use Rattle.std.proofs.lemmas.List.{get_or_read_under}
 use Rattle.std.proofs.lemmas.Option.{slice_get-get_or}
 use Rattle.std.proofs.lemmas.Bool.{false≢true}
 use Rattle.std.specs.Prelude.{OnOk}
 use Rattle.pm_map.specs.Rotation.{structure_of, twin}
-use Rattle.pm_map.specs.Meeting.{Stands}
 use Rattle.pm_canon.specs.steps.Kept.{AppendsVertex}
 use Rattle.pm_canon.proofs.MeetingLemmas.{IsMeeting-stands, IsMeeting-onward}
 use Rattle.pm_canon.proofs.meeting.meet_twin.Goals as goal
@@ -14,8 +13,8 @@ returns-then-marks-other c =
     let s = structure_of (record { sigma = c.args.sigma.now; root = c.args.root }) in
     let darts = c.args.darts.now.items in
     let is_dart : c.index.result.now ≡ get_or darts c.args.place 0 = get_or_read_under darts c.args.place (vec_len c.args.darts.now) c.index.result.now 0 c.index.ensures c.requires.within (omega arith) in
-    let stands : Stands darts c.twin_of-other.result = c.requires.meeting.kept.marking.stands c.twin_of-other.result c.if-marks-other.true in
-    IsMeeting-stands s c.args.marks.now darts c.args.place c.requires.meeting (omega arith) (subst (λ d. Stands darts d) (c.twin_of-other.ensures ∙ ap twin is_dart) stands)
+    let stands : Contains darts c.twin_of-other.result = c.requires.meeting.kept.marking.stands c.twin_of-other.result c.if-marks-other.true in
+    IsMeeting-stands s c.args.marks.now darts c.args.place c.requires.meeting (omega arith) (subst (λ d. Contains darts d) (c.twin_of-other.ensures ∙ ap twin is_dart) stands)
 
 pub append_vertex-requires-clause-unmarked : goal.append_vertex-requires-clause-unmarked
 append_vertex-requires-clause-unmarked c =
@@ -38,8 +37,8 @@ returns c =
     let darts = c.args.darts.now.items in
     let is_dart : c.index.result.now ≡ get_or darts c.args.place 0 = get_or_read_under darts c.args.place (vec_len c.args.darts.now) c.index.result.now 0 c.index.ensures c.requires.within (omega arith) in
     let is_other : c.twin_of-other.result ≡ twin (get_or darts c.args.place 0) = c.twin_of-other.ensures ∙ ap twin is_dart in
-    let unmet : Stands darts (twin (get_or darts c.args.place 0)) → ⊥ = λ stands.
-    false≢true (sym c.if-marks-other.false ∙ c.requires.meeting.kept.marking.marked c.twin_of-other.result (subst (λ d. Stands darts d) (sym is_other) stands)) in
+    let unmet : Contains darts (twin (get_or darts c.args.place 0)) → ⊥ = λ stands.
+    false≢true (sym c.if-marks-other.false ∙ c.requires.meeting.kept.marking.marked c.twin_of-other.result (subst (λ d. Contains darts d) (sym is_other) stands)) in
     both _ _ _ _ c.append_vertex.ensures.appended c.append_vertex.ensures.kept (λ appended kept.
     IsMeeting-onward s c.args.marks.now c.append_vertex.new.marks darts c.append_vertex.new.darts.items c.args.place c.requires.meeting (omega arith) unmet
     (subst (λ d. AppendsVertex s d darts c.append_vertex.new.darts.items) is_other appended) kept)

@@ -1,9 +1,8 @@
-use Rattle.std.proofs.Common.{◌≡◌, ◌+◌, ◌<◌, ◌≤◌, ◌∷◌, [], ◌++◌, length, take, get_or, set, sym, subst, ◌∙◌, arith, true}
+use Rattle.std.proofs.Common.{◌≡◌, ◌+◌, ◌<◌, ◌≤◌, ◌∷◌, [], ◌++◌, length, take, get_or, set, sym, subst, ◌∙◌, arith, true, Contains}
 use Rattle.std.proofs.lemmas.List.{take_more, length-take-le}
 use Rattle.std.proofs.lemmas.Bool.{false≢true}
 use Rattle.pm_map.specs.Rotation.{twin}
 use Rattle.pm_map.specs.Canonical.{first_mentions}
-use Rattle.pm_map.specs.Meeting.{Stands}
 use Rattle.pm_canon.specs.steps.Naming.{IsNaming}
 use Rattle.pm_canon.proofs.KeptLemmas.{HasEachOnce-fresh, HasEachOnce-length}
 use Rattle.pm_canon.proofs.MentionLemmas.{first_mentions-length, twin_below}
@@ -16,7 +15,7 @@ returns-then-is_mentioned c =
     let before = take c.args.place darts in
     let dart = get_or darts c.args.place 0 in
     let below : dart < length c.args.names.now = c.requires.once.stays c.args.place c.requires.within in
-    let stands : Stands before (twin dart) = subst (λ d. Stands before d) c.twin_of-other.ensures (c.requires.naming.marking.stands c.twin_of-other.result c.if-is_mentioned.true) in
+    let stands : Contains before (twin dart) = subst (λ d. Contains before d) c.twin_of-other.ensures (c.requires.naming.marking.stands c.twin_of-other.result c.if-is_mentioned.true) in
     subst (λ l. IsNaming l (set c.args.seen.now dart true) c.args.names.now c.args.name) (sym (take_more darts c.args.place 0 c.requires.within))
     (IsNaming-seen before c.args.seen.now c.args.names.now c.args.name dart c.requires.naming (omega arith) stands)
 
@@ -36,8 +35,8 @@ returns c =
     let dart = get_or darts c.args.place 0 in
     let names = c.args.names.now in
     let below : dart < length c.args.names.now = c.requires.once.stays c.args.place c.requires.within in
-    let unseen : Stands before (twin dart) → ⊥ = λ stands.
-    false≢true (sym c.if-is_mentioned.false ∙ c.requires.naming.marking.marked c.twin_of-other.result (subst (λ d. Stands before d) (sym c.twin_of-other.ensures) stands)) in
+    let unseen : Contains before (twin dart) → ⊥ = λ stands.
+    false≢true (sym c.if-is_mentioned.false ∙ c.requires.naming.marking.marked c.twin_of-other.result (subst (λ d. Contains before d) (sym c.twin_of-other.ensures) stands)) in
     let named = IsNaming-new before c.args.seen.now names c.args.name dart c.requires.naming (omega arith) below (twin_below (length names) dart c.requires.even below)
     (HasEachOnce-fresh _ darts c.args.place c.requires.once c.requires.within) unseen in
     let at_other : IsNaming (before ++ dart ∷ []) (set c.args.seen.now dart true) (set (set names dart c.args.name) c.twin_of-other.result (c.args.name + 1)) (c.args.name + 2) =

@@ -1,12 +1,18 @@
 use Rattle.std.proofs.Common.{◌≡◌, ℕ, suc, ◌+◌, ◌*◌, ◌<◌, ◌∙◌, ap, sym, subst, length, get_or, vec_len, arith, false}
 use Rattle.std.proofs.lemmas.List.{get_or_read_under}
 use Rattle.std.proofs.lemmas.Result.{on_ok_weaker}
+use Rattle.std.proofs.lemmas.List.Elements.{Contains-get_or}
 use Rattle.pm_map.specs.Rotation.{twin}
 use Rattle.pm_map.specs.steps.Marks.{IsMarked}
-use Rattle.pm_map.proofs.StandsLemmas.{Stands-get_or}
 use Rattle.pm_distances.specs.steps.DistanceSearch.{FindsFace}
 use Rattle.pm_distances.proofs.FaceSearch.{IsFinding-found, IsFinding-more, IsFinding-few}
 use Rattle.pm_distances.proofs.distances.find_across.Goals as goal
+
+pub twin-other-requires : goal.twin-other-requires
+twin-other-requires c =
+    let darts = c.args.darts.now.items in
+    let is_dart : c.index-dart.result.now ≡ get_or darts c.args.place 0 = get_or_read_under darts c.args.place (vec_len c.args.darts.now) c.index-dart.result.now 0 c.index-dart.ensures c.requires.within (omega arith) in
+    subst (λ d. d < length c.args.map.now.sigma) (sym is_dart) (c.requires.finding.listed.below (get_or darts c.args.place 0) (Contains-get_or darts c.args.place 0 (omega arith)))
 
 pub returns-then-found-other-clause-finding : goal.returns-then-found-other-clause-finding
 returns-then-found-other-clause-finding c =
@@ -27,7 +33,7 @@ pub find_face-requires-clause-within : goal.find_face-requires-clause-within
 find_face-requires-clause-within c =
     let darts = c.args.darts.now.items in
     let is_dart : c.index-dart.result.now ≡ get_or darts c.args.place 0 = get_or_read_under darts c.args.place (vec_len c.args.darts.now) c.index-dart.result.now 0 c.index-dart.ensures c.requires.within (omega arith) in
-    let below : get_or darts c.args.place 0 < length c.args.map.now.sigma = c.requires.finding.listed.below (get_or darts c.args.place 0) (Stands-get_or darts c.args.place (omega arith)) in
+    let below : get_or darts c.args.place 0 < length c.args.map.now.sigma = c.requires.finding.listed.below (get_or darts c.args.place 0) (Contains-get_or darts c.args.place 0 (omega arith)) in
     let other : twin (get_or darts c.args.place 0) < length c.args.map.now.sigma = c.requires.map.structure.twin_stays (get_or darts c.args.place 0) below in
     subst (λ d. d < length c.args.map.now.sigma) (sym (c.twin-other.ensures ∙ ap twin is_dart)) other
 
