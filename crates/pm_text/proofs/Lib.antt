@@ -4,4 +4,3 @@ pub mod NumeralLemmas
 pub mod ReadingLemmas
 pub mod WordLemmas
 pub mod ReaderLemmas
-pub mod DigitLemmas

@@ -4,6 +4,7 @@ ghost use Rattle.std.specs.Option.{SomeIff};
 ghost use Rattle.std.specs.Str.Parse.{AllDigits, digits_value};
 ghost use Rattle.pm_text.specs.Numeral.{IsNumber, HasOneSpelling};
 
+use itoa::write_digits;
 use std::alloc::{AllocError, Global};
 
 /// The number that `word` spells, where it is `0`, or decimal digits without a leading zero, of at
@@ -47,25 +48,8 @@ pub fn put_number(_alloc: Global, value: u64, text: &mut Vec<u8>) -> Result<(), 
     ensures read_again { IsNumber (decimal value) value }
 {
     let mut digits = [0u8; 20];
-    let start = write_digits(value, &mut digits);
+    let start = write_digits(value, &mut digits, 20);
     text.extend_from_slice(&digits[start..])
-}
-
-// Writes the spelling to the end of the buffer, which has room for the greatest number, and says where it begins.
-fn write_digits(value: u64, digits: &mut [u8]) -> usize
-    requires { length digits.old ≡ 20 }
-    ensures within { result ≤ 20 }
-    ensures spelled { drop result digits.new ≡ decimal value }
-{
-    let mut rest = value / 10;
-    let mut start: usize = 19;
-    digits[start] = b'0' + (value % 10) as u8;
-    'digits: while rest > 0 {
-        start -= 1;
-        digits[start] = b'0' + (rest % 10) as u8;
-        rest /= 10;
-    }
-    start
 }
 
 /// A law: what [`put_number`] appends is the one word that spells the number, so [`number`] reads it
