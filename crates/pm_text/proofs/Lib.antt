@@ -4,3 +4,4 @@ pub mod NumeralLemmas
 pub mod ReadingLemmas
 pub mod WordLemmas
 pub mod ReaderLemmas
+pub mod LeadingLemmas

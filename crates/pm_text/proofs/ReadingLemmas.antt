@@ -79,3 +79,10 @@ pub first_lines-next_line : (after : ℕ) (old new : Reading) (text : List ℕ) 
 first_lines-next_line after old new text true next = ap (first_lines 1) next.left ∙ first_lines-line text new.rest next.no_newline
 first_lines-next_line after old new text false next =
     ap (first_lines 1) (unfinished_is_all after old new text next) ∙ first_lines-unfinished text next.no_newline ∙ ap (λ t. t ∷ []) (sym (append-nil text))
+
+-- so many bytes are given at once
+pub reading_skipped : (bytes : List ℕ) (given count : ℕ) → reading_at bytes (given + count) ≡ record { given = take given bytes ++ take count (drop given bytes); rest = drop count (drop given bytes) }
+reading_skipped bytes given count =
+    let with_given : List ℕ → Reading = λ l. record { given = l; rest = drop (given + count) bytes } in
+    let with_rest : List ℕ → Reading = λ l. record { given = take given bytes ++ take count (drop given bytes); rest = l } in
+    ap with_given (take-add given count bytes) ∙ ap with_rest (sym (drop-drop count given bytes))

@@ -1,5 +1,6 @@
 -- Numbers in texts: the decimal digits of a number of 64 bits, in their one spelling.
-use Rattle.std.specs.Prelude.{◌≡◌, ℕ, ◌<◌, ◌^◌, ◌↔◌, List, length, slice_index, decimal}
+use Rattle.std.specs.Prelude.{◌≡◌, ℕ, ◌<◌, ◌≤◌, ◌^◌, ◌↔◌, List, length, slice_index, take, decimal}
+use Rattle.std.specs.Int.{IsInRange}
 use Rattle.std.specs.Str.Parse.{IsNumeral, digits_value}
 
 -- the word spells the number: it is `0`, or decimal digits without a leading zero, and the number that
@@ -13,3 +14,14 @@ pub record IsNumber (word : List ℕ) (number : ℕ) : Type 0 where
 -- a number of 64 bits has one spelling, the decimal digits that are printed of it, and other numbers have none
 abbrev pub HasOneSpelling : Type 0
 HasOneSpelling = (word : List ℕ) (number : ℕ) → IsNumber word number ↔ ((number < 2 ^ 64) × (word ≡ decimal number))
+
+-- a decimal digit stands at the place (48 is `0`, 57 is `9`)
+pub record HasDigit (bytes : List ℕ) (place : ℕ) : Type 0 where
+  pub within : place < length bytes
+  pub digit : IsInRange 48 57 (slice_index bytes place)
+
+-- so many bytes at the front spell the number, and no digit stands after them
+pub record IsLeadingNumber (bytes : List ℕ) (number count : ℕ) : Type 0 where
+  pub within : count ≤ length bytes
+  pub word : IsNumber (take count bytes) number
+  pub ends : ¬ HasDigit bytes count

@@ -1,5 +1,5 @@
 //! Lines of a text.
-ghost use Rattle.std.specs.Prelude.{◌≡◌, ℕ, ◌++◌, ◌≤◌, ◌↔◌, [], length, IsNone, MatchOption};
+ghost use Rattle.std.specs.Prelude.{◌≡◌, ℕ, ◌++◌, ◌≤◌, ◌↔◌, [], length, take, drop, IsNone, MatchOption};
 ghost use Rattle.pm_text.specs.Reading.{Reading, reading_of, reading_at, IsNextLine};
 
 use crate::find::find;
@@ -37,6 +37,22 @@ impl<'a> Lines<'a> {
         ensures { result ≡ reading_of bytes.now }
     {
         Lines { bytes, given: 0 }
+    }
+
+    /// The bytes that are left.
+    pub fn rest(&self) -> &'a [u8]
+        ensures { result.now ≡ self.now.rest }
+    {
+        let bytes = self.bytes;
+        &bytes[self.given..]
+    }
+
+    /// Gives out so many of the bytes that are left, which the caller has read.
+    pub fn skip(&mut self, count: usize)
+        requires { count ≤ length self.old.rest }
+        ensures { self.new ≡ record { given = self.old.given ++ take count self.old.rest; rest = drop count self.old.rest } }
+    {
+        self.given += count;
     }
 
     /// The next line, or `None` where all bytes were given.

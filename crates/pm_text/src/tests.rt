@@ -1,5 +1,5 @@
 //! Worked values.
-use crate::{Lines, Words, number, put_number};
+use crate::{LeadingNumber, Lines, Words, leading_number, number, put_number};
 use std::test::Fail;
 
 #[test]
@@ -21,6 +21,26 @@ fn numbers(rt: HostRuntime) {
     ];
     for (word, want) in rows {
         assert_eq!(rt; number(word), want);
+    }
+}
+
+#[test]
+fn numbers_at_the_front(rt: HostRuntime) {
+    let rows: [(&[u8], Option<(u64, usize)>); 10] = [
+        (b"0", Some((0, 1))),
+        (b"0 7", Some((0, 1))),
+        (b"70\n", Some((70, 2))),
+        (b"18446744073709551615v", Some((18446744073709551615, 20))),
+        (b"18446744073709551616v", None),
+        (b"99999999999999999999", None),
+        (b"", None),
+        (b" 7", None),
+        (b"02", None),
+        (b"00", None),
+    ];
+    for (bytes, want) in rows {
+        let want = want.map(|(value, length)| LeadingNumber { value, length });
+        assert_eq!(rt; leading_number(bytes), want);
     }
 }
 
@@ -50,6 +70,11 @@ fn lines_of_a_text(rt: HostRuntime) -> Result<(), Fail> {
     assert!(rt; lines.next().is_none());
     assert!(rt; lines.next().is_none());
     assert!(rt; Lines::new(b"").next().is_none());
+    let mut lines = Lines::new(b"ab\ncd\n");
+    let count = lines.rest().len().min(3);
+    lines.skip(count);
+    assert_eq!(rt; lines.rest(), b"cd\n".as_slice());
+    assert_eq!(rt; lines.next().ok_or("a line")?.after, 6);
     Ok(())
 }
 
