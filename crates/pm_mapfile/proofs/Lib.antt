@@ -3,6 +3,7 @@ pub mod NumberLines
 pub mod TailLemmas
 pub mod ReadLemmas
 pub mod RoomLemmas
+pub mod VertexLemmas
 pub mod FormLemmas
 pub mod FileLemmas
 pub mod ResidueLemmas

@@ -1,8 +1,8 @@
 -- Where the reader of a map text stands: what it has read, and that the next line is broken where it stops.
-use Rattle.std.proofs.Common.{◌≡◌, ◌≢◌, ℕ, ◌+◌, ◌-◌, ◌*◌, ◌≤◌, true, List, [], ◌∷◌, ◌++◌, length, map, take, refl, sym, ap, ◌∙◌, subst, arith, append_assoc, length-append}
+use Rattle.std.proofs.Common.{◌≡◌, ◌≢◌, ℕ, ◌+◌, ◌-◌, ◌*◌, ◌<◌, ◌≤◌, true, true≢false, List, [], ◌∷◌, ◌++◌, length, map, take, drop, refl, sym, ap, ◌∙◌, subst, arith, append_assoc, length-append, length-drop, length-take-le}
 use Rattle.std.specs.Prelude.{All, codes}
 use Rattle.std.specs.List.{concat}
-use Rattle.std.proofs.lemmas.List.{append-nil, map-append, length-map, length_push}
+use Rattle.std.proofs.lemmas.List.{append-nil, map-append, length-map, length_push, take-append-drop}
 use Rattle.std.proofs.Math.Seq.{take-append_seam}
 use Rattle.std.proofs.lemmas.List.Elements.{All-nil, All-push}
 use Rattle.std.proofs.lemmas.List.Folds.{concat-append}
@@ -13,10 +13,10 @@ use Rattle.pm_text.proofs.ReadingLemmas.{whole_after_line}
 use Rattle.pm_text.proofs.ReaderLemmas.{broken_at_line, broken_at_end}
 use Rattle.pm_mapfile.specs.MapText.{dart_words, vertex_line, vertex_lines, map_line}
 use Rattle.pm_mapfile.specs.MapFile.{MapLines, IsFirstLine, IsVertexLine, lines_text, BeginsWithMapText}
-use Rattle.pm_mapfile.specs.steps.Lines.{IsNumbersLine, IsReadMap, AppendsVertex, HasNoRoomFor}
+use Rattle.pm_mapfile.specs.steps.Lines.{IsNumbersLine, IsReadMap, HasNoVertex, ReadsVertex}
 use Rattle.pm_mapfile.proofs.PrintLemmas.{vertex_lines-append}
-use Rattle.pm_mapfile.proofs.NumberLines.{numbers_are_unique}
-use Rattle.pm_mapfile.proofs.TailLemmas.{IsTail, IsNextOf, ends, goes_on, next_of_tail, tail_has_newline, some_tail, FollowsLines, past_lines, before_lines, first_of_text, text_of_first, first_text, first_line_spelled, first_no_newline, two_fit, text_has_newline, v_not_end, tag_map_no_space, tag_map_some}
+use Rattle.pm_mapfile.proofs.NumberLines.{Fits64, numbers_are_unique}
+use Rattle.pm_mapfile.proofs.TailLemmas.{IsTail, IsNextOf, ends, goes_on, next_of_tail, tail_has_newline, some_tail, FollowsLines, past_lines, before_lines, first_of_text, text_of_first, first_text, first_line_spelled, first_no_newline, vertex_no_newline, two_fit, text_has_newline, v_not_end, tag_map_no_space, tag_map_some}
 
 -- the map without darts begins every text that has no line yet
 no_dart_text : BeginsWithMapText (map_line 0 0 ++ (codes "end" ++ newline ∷ []))
@@ -180,13 +180,49 @@ pub lines_fit : (edges root : ℕ) (bytes darts sizes : List ℕ) (reading : Rea
 lines_fit edges root bytes darts sizes reading r =
     omega (arith, ap length r.all, length-append reading.given reading.rest, ap length r.given, length-append (map_line edges root) (vertex_lines r.vertices), vertices_short r.vertices, ap length r.sizes_are, length-map r.vertices length)
 
--- the same, as the reader's functions tell it, where `edges` is read as `wide` and the line is counted by `line`
-pub read_more_told : (after edges root wide : ℕ) (bytes text darts sizes more_darts more_sizes : List ℕ) (old new : Reading) → wide ≡ edges → IsReadSoFar bytes edges root darts sizes old
-    → IsNextLine old new text true after → AppendsVertex (2 * wide) text darts more_darts sizes more_sizes → IsReadSoFar bytes edges root more_darts more_sizes new
-read_more_told after edges root wide bytes text darts sizes more_darts more_sizes old new same r next told =
-    let a : AppendsVertex (2 * edges) text darts more_darts sizes more_sizes = subst (λ e. AppendsVertex (2 * e) text darts more_darts sizes more_sizes) same told in
-    read_more after edges root bytes text a.vertex darts sizes more_darts more_sizes old new r next a.line a.is_vertex a.appended a.room a.sized
+-- the reading after so many bytes more
+abbrev pub skipped : Reading → ℕ → Reading
+skipped old count = record { given = old.given ++ take count old.rest; rest = drop count old.rest }
 
+-- the line of a vertex at the front of what is left is the next line
+line_of_vertex : (count : ℕ) (vertex : List ℕ) (old : Reading) → All Fits64 vertex → take count old.rest ≡ vertex_line vertex
+    → IsNextLine old (skipped old count) (codes "v" ++ dart_words vertex) true (length (old.given ++ take count old.rest))
+line_of_vertex count vertex old fit line = record {
+  no_newline = vertex_no_newline vertex fit;
+  left = sym (take-append-drop count old.rest) ∙ ap (λ l. l ++ drop count old.rest) line ∙ append_assoc (codes "v" ++ dart_words vertex) (newline ∷ []) (drop count old.rest);
+  now_given = ap (λ l. old.given ++ l) line;
+  place = refl;
+  unfinished = λ e. absurd (true≢false e);
+}
+
+pub read_vertex_more : (edges root count : ℕ) (bytes darts sizes more_darts more_sizes : List ℕ) (old : Reading) → IsReadSoFar bytes edges root darts sizes old
+    → ReadsVertex (2 * edges) old.rest count darts more_darts sizes more_sizes → IsReadSoFar bytes edges root more_darts more_sizes (skipped old count)
+read_vertex_more edges root count bytes darts sizes more_darts more_sizes old r v =
+    let read = v.read in
+    let next = line_of_vertex count read.vertex old read.is_vertex.fit read.line in
+    read_more (length (old.given ++ take count old.rest)) edges root bytes (codes "v" ++ dart_words read.vertex) read.vertex darts sizes more_darts more_sizes old (skipped old count) r next
+    (record { fit = read.is_vertex.fit; spelled = refl }) read.is_vertex read.appended read.room v.sized
+
+-- the same darts and sizes
+pub read_the_same : (edges root : ℕ) (bytes darts sizes same_darts same_sizes : List ℕ) (reading : Reading) → same_darts ≡ darts → same_sizes ≡ sizes
+    → IsReadSoFar bytes edges root darts sizes reading → IsReadSoFar bytes edges root same_darts same_sizes reading
+read_the_same edges root bytes darts sizes same_darts same_sizes reading d s r =
+    subst (λ l. IsReadSoFar bytes edges root l same_sizes reading) (sym d) (subst (λ l. IsReadSoFar bytes edges root darts l reading) (sym s) r)
+
+-- a line takes bytes
+pub vertex_takes : (darts count : ℕ) (bytes old new old_sizes new_sizes : List ℕ) → ReadsVertex darts bytes count old new old_sizes new_sizes → length (drop count bytes) < length bytes
+vertex_takes darts count bytes old new old_sizes new_sizes v =
+    let read = v.read in
+    omega (
+      arith,
+      read.within,
+      length-drop count bytes,
+      length-take-le count bytes read.within,
+      ap length read.line,
+      length-append (codes "v" ++ dart_words read.vertex) (10 ∷ []),
+    )
+
+-- the same, where the line is counted by `line`
 counted : (bytes : List ℕ) (line other : ℕ) → other ≡ line → IsBrokenLine BeginsWithMapText bytes other → IsBrokenLine BeginsWithMapText bytes line
 counted bytes line other e b = subst (IsBrokenLine BeginsWithMapText bytes) e b
 
@@ -199,8 +235,10 @@ pub end_broken_told : (after edges root line : ℕ) (bytes text darts sizes : Li
 end_broken_told after edges root line bytes text darts sizes old new e r next is few =
     counted bytes line (length sizes + 1 + 1) (omega (arith, e)) (end_broken after edges root bytes text darts sizes old new r next is few)
 
-pub vertex_broken_told : (after edges root wide line : ℕ) (bytes text darts sizes : List ℕ) (old new : Reading) → wide ≡ edges → line ≡ length sizes + 2 → IsReadSoFar bytes edges root darts sizes old
-    → IsNextLine old new text true after → text ≢ codes "end" → HasNoRoomFor (2 * wide) text darts → IsBrokenLine BeginsWithMapText bytes line
-vertex_broken_told after edges root wide line bytes text darts sizes old new same e r next other none =
-    let no_room : HasNoRoomFor (2 * edges) text darts = subst (λ e. HasNoRoomFor (2 * e) text darts) same none in
-    counted bytes line (length sizes + 1 + 1) (omega (arith, e)) (vertex_broken after edges root bytes text darts sizes old new r next other no_room)
+pub vertex_broken_told : (after edges root line : ℕ) (bytes text darts sizes : List ℕ) (old new : Reading) → line ≡ length sizes + 2 → IsReadSoFar bytes edges root darts sizes old
+    → IsNextLine old new text true after → text ≢ codes "end" → HasNoVertex (2 * edges) old.rest darts → IsBrokenLine BeginsWithMapText bytes line
+vertex_broken_told after edges root line bytes text darts sizes old new e r next other none =
+    counted bytes line (length sizes + 1 + 1) (omega (arith, e))
+    (vertex_broken after edges root bytes text darts sizes old new r next other
+    (λ vertex spelled is room. none vertex new.rest is room
+    (next.left ∙ ap (λ l. l ++ newline ∷ new.rest) spelled.spelled ∙ sym (append_assoc (codes "v" ++ dart_words vertex) (newline ∷ []) new.rest))))

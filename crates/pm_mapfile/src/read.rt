@@ -1,13 +1,12 @@
 //! The lines of a map text.
-ghost use Rattle.std.specs.Prelude.{◌≡◌, ◌<◌, ◌^◌, ◌↔◌, ℕ, List, All, IsTrue, true, length, IfOk, MatchOption};
-ghost use Rattle.std.specs.Bool.{MatchBool};
+ghost use Rattle.std.specs.Prelude.{◌≡◌, ◌*◌, ◌<◌, ◌^◌, ℕ, true, length, IfOk, MatchOption};
 ghost use Rattle.pm_text.specs.Broken.{HasNoNewline};
 ghost use Rattle.pm_text.specs.Reading.{IsNextLine};
-ghost use Rattle.pm_mapfile.specs.steps.Lines.{IsFirstText, AppendsVertex, HasNoRoomFor};
+ghost use Rattle.pm_mapfile.specs.steps.Lines.{HasNoVertex, IsFirstText, IsLonger, ReadsDarts, ReadsVertex};
 ghost use Rattle.pm_mapfile.specs.steps.ReadText.{IsReadTextAnswer};
 
 use crate::numbers::read_numbers;
-use pm_text::{Line, Lines};
+use pm_text::{Line, Lines, leading_number};
 use std::alloc::{AllocError, Global};
 
 /// Why bytes do not begin with the text of a map.
@@ -68,28 +67,32 @@ pub(crate) fn read_map_text(alloc: Global, bytes: &[u8]) -> Result<ReadText, Tex
     let Some(first) = read_first(alloc, line.text)? else {
         return Err(TextRefusal::Text { line: 1 });
     };
-    let limit = 2 * u128::from(first.edges);
     let mut darts = Vec::new(alloc);
     let mut sizes = Vec::new(alloc);
-    'lines: while let Some(line) = next_ended(&mut lines) {
-        if line.text == b"end".as_slice() {
-            if darts.len() as u128 != limit {
-                break 'lines;
-            }
-            return Ok(ReadText {
-                edges: first.edges,
-                root: first.root,
-                darts,
-                sizes,
-                after: line.after,
-            });
-        }
-        if !read_vertex(alloc, line.text, limit, &mut darts, &mut sizes)? {
-            break 'lines;
-        }
+    'lines: while let Some(count) = read_vertex(
+        lines.rest(),
+        first.edges,
+        &mut darts,
+        &mut sizes,
+    )? {
+        lines.skip(count);
     }
-    Err(TextRefusal::Text {
+    let refusal = TextRefusal::Text {
         line: sizes.len() as u32 + 2,
+    };
+    let Some(last) = next_ended(&mut lines) else {
+        return Err(refusal);
+    };
+    let is_end = last.text == b"end".as_slice();
+    if !is_end || darts.len() as u128 != 2 * u128::from(first.edges) {
+        return Err(refusal);
+    }
+    Ok(ReadText {
+        edges: first.edges,
+        root: first.root,
+        darts,
+        sizes,
+        after: last.after,
     })
 }
 
@@ -128,37 +131,51 @@ fn read_first(alloc: Global, text: &[u8]) -> Result<Option<FirstLine>, AllocErro
     }
 }
 
-// Appends the darts of the line of a vertex, and how many they are, where there is room for so many; or answers false
-// exactly where the line is none or there is no room, and appends nothing.
+// Appends the darts of the line of a vertex at the front of `bytes`, and how many they are, where there is room for so many
+// among the darts of so many edges, and answers how many bytes the line has; or answers `None` exactly where no such line
+// stands there or there is no room, and appends nothing.
 fn read_vertex(
-    alloc: Global,
-    text: &[u8],
-    room: u128,
+    bytes: &[u8],
+    edges: u64,
     darts: &mut Vec<u64>,
     sizes: &mut Vec<usize>,
-) -> Result<bool, AllocError>
-    ensures { IfOk result (λ is_vertex. MatchBool is_vertex
-        (AppendsVertex room text.now darts.old.items darts.new.items sizes.old.items sizes.new.items)
-        (HasNoRoomFor room text.now darts.old.items × (sizes.new.items ≡ sizes.old.items))) }
+) -> Result<Option<usize>, AllocError>
+    ensures { IfOk result (λ found. MatchOption found
+        (HasNoVertex (2 * edges) bytes.now darts.old.items × (darts.new.items ≡ darts.old.items) × (sizes.new.items ≡ sizes.old.items))
+        (λ count. ReadsVertex (2 * edges) bytes.now count darts.old.items darts.new.items sizes.old.items sizes.new.items)) }
 {
-    let Some(numbers) = read_numbers(alloc, b"v", text)? else {
-        return Ok(false);
+    let start = darts.len();
+    let Some(count) = push_darts(bytes, edges, darts)? else {
+        darts.truncate(start);
+        return Ok(None);
     };
-    let vertex = numbers.values();
-    if vertex.is_empty()
-        || (darts.len() + vertex.len()) as u128 > room
-        || !are_below(vertex, room)
-    {
-        return Ok(false);
-    }
-    darts.extend_from_slice(vertex)?;
-    sizes.push(vertex.len())?;
-    Ok(true)
+    sizes.push(darts.len() - start)?;
+    Ok(Some(count))
 }
 
-// Whether each of the numbers is below the bound.
-fn are_below(numbers: &[u64], bound: u128) -> bool
-    ensures { IsTrue result ↔ All (λ number. number < bound) numbers.now }
+// Appends the darts of the line at the front of `bytes`, as above; where it answers `None` it may have appended some.
+fn push_darts(bytes: &[u8], edges: u64, darts: &mut Vec<u64>) -> Result<Option<usize>, AllocError>
+    ensures { IfOk result (λ found. MatchOption found
+        (HasNoVertex (2 * edges) bytes.now darts.old.items × IsLonger darts.old.items darts.new.items)
+        (λ count. ReadsDarts (2 * edges) bytes.now count darts.old.items darts.new.items)) }
 {
-    numbers.iter().all(|number| u128::from(*number) < bound)
+    if bytes.is_empty() || bytes[0] != b'v' {
+        return Ok(None);
+    }
+    let mut place: usize = 1;
+    'darts: while place < bytes.len() && bytes[place] == b' ' {
+        let Some(dart) = leading_number(&bytes[place + 1..]) else {
+            return Ok(None);
+        };
+        // Halves are compared, since twice the number of edges may need more bits.
+        if dart.value / 2 >= edges || darts.len() as u64 / 2 >= edges {
+            return Ok(None);
+        }
+        darts.push(dart.value)?;
+        place += 1 + dart.length;
+    }
+    if place == 1 || place >= bytes.len() || bytes[place] != b'\n' {
+        return Ok(None);
+    }
+    Ok(Some(place + 1))
 }
