@@ -1,17 +1,17 @@
 -- The rotation of the lines: lines turned by one, the dart after each dart, and what is told of all darts.
-use Rattle.std.proofs.Common.{◌≡◌, ℕ, suc, ◌+◌, ◌-◌, ◌<◌, ◌≤◌, inl, inr, List, [], ◌∷◌, ◌++◌, Option, Some, None, length, take, drop, get_or, set, replicate, refl, sym, ap, ◌∙◌, subst, arith, append_assoc, length-append, length-drop, length-set, length-take-le, get_or-append-add, drop-drop, Result, Ok, Err}
-use Rattle.std.specs.Prelude.{MatchOption, Vec, sum}
-use Rattle.std.specs.declared.alloc.Global.{Global}
-use Rattle.std.proofs.lemmas.Bool.{cases_eq}
-use Rattle.std.proofs.lemmas.List.{drop_more, get_or-set_same, get_or-set_other, get_or-replicate, get_or_append_left, get_or_push, get_or-take, get_or-drop, length-replicate}
+use Rattle.std.proofs.Common.{◌≡◌, ℕ, zero, suc, eqb, ◌+◌, ◌-◌, ◌<◌, ◌≤◌, inl, inr, List, [], ◌∷◌, ◌++◌, Option, Some, None, length, take, drop, get_or, set, replicate, map, refl, sym, ap, ◌∙◌, subst, arith, append_assoc, length-append, length-drop, length-set, length-take-le, get_or-append-add, drop-drop}
+use borrow.Author.Count.{below_more}
+use Rattle.std.specs.Prelude.{MatchOption, sum}
+use Rattle.std.proofs.lemmas.Bool.{cases_eq, cond-true, cond-false, eq-eqb, ne_eqb}
+use Rattle.std.proofs.lemmas.Bool.Decides.{nat_tests}
+use Rattle.std.proofs.lemmas.List.{drop_more, get_or-set_same, get_or-set_other, get_or-replicate, get_or_append_left, get_or_push, get_or-take, get_or-drop, get_or-map, length-map, length-replicate, map-set}
 use Rattle.std.proofs.lemmas.List.Elements.{All-head, All-tail}
 use Rattle.std.proofs.lemmas.List.Sums.{sum_by-append}
 use Rattle.std.proofs.Math.Seq.{take-append_seam}
 use Rattle.pm_perm.proofs.Contained.{contains_at, is_at}
-use Rattle.pm_map.specs.declared.refusal.MapRefusal.{MapRefusal}
-use Rattle.pm_map.specs.declared.refusal.MapRefusal.TheVariants.{Memory, TooMany, NotPermutation, NotConnected, Genus}
+use Rattle.pm_map.specs.Missing.{IsLeastMissing}
 use Rattle.pm_map.proofs.MarksLemmas.{MatchOption-weaker}
-use Rattle.pm_mapfile.specs.steps.Rotation.{turned, turned_lines, AreSizes, IsFollowed, AreFollowers, AreAllTold, IsFirstUntold, IsToldAnswer, IsRotationAnswer}
+use Rattle.pm_mapfile.specs.steps.Rotation.{turned, turned_lines, AreSizes, IsFollowed, AreFollowers, AreAllTold, IsFirstUntold, CarriesOn, told_dart}
 
 -- a line turned by one has as many darts
 pub length-turned : (darts : List ℕ) → length (turned darts) ≡ length darts
@@ -207,26 +207,40 @@ pub record IsTelling (followers : List (Option ℕ)) (values : List ℕ) (count 
   pub size : length values ≡ length followers
   pub told : (place : ℕ) → place < count → get_or followers place None ≡ Some (get_or values place 0)
 
-pub telling_begins : (followers : List (Option ℕ)) → IsTelling followers (replicate (length followers) 0) 0
-telling_begins followers = record { size = length-replicate (length followers) 0; told = λ place less. absurd (omega arith) }
+-- a dart is told
+pub told_some : (value : ℕ) → value < 4294967295 → told_dart value ≡ Some value
+told_some value less = grind (arith, nat_tests)
 
-pub telling_more : (followers : List (Option ℕ)) (values : List ℕ) (count value : ℕ) → IsTelling followers values count → count < length followers
-    → get_or followers count None ≡ Some value → IsTelling followers (set values count value) (count + 1)
-telling_more followers values count value t h is = record {
-  size = length-set values count value ∙ t.size;
-  told = λ place less. elim (cases_eq place count) [
-    | inl here ↦ ap (λ n. get_or followers n None) here ∙ is
-        ∙ ap (λ (n : ℕ). Some n) (sym (ap (λ n. get_or (set values count value) n 0) here ∙ get_or-set_same values count value 0 (omega (arith, t.size))))
-    | inr other ↦ t.told place (omega (arith, other)) ∙ ap (λ (n : ℕ). Some n) (sym (get_or-set_other values count place value 0 other))
-  ];
+told_other : (value : ℕ) → (value ≡ 4294967295 → ⊥) → told_dart value ≡ Some value
+told_other value other = cond-false (eqb value 4294967295) _ _ (ne_eqb value 4294967295 other)
+
+pub told_none : (value : ℕ) → value ≡ 4294967295 → told_dart value ≡ None
+told_none value is = cond-true (eqb value 4294967295) _ _ (eq-eqb value 4294967295 is)
+
+-- what is told of a dart, from what is written
+told_at : (values : List ℕ) (place : ℕ) → place < length values → get_or (map told_dart values) place None ≡ told_dart (get_or values place 0)
+told_at values place less = get_or-map told_dart values place 0 None less
+
+pub telling_begins : (values : List ℕ) → IsTelling (map told_dart values) values 0
+telling_begins values = record { size = sym (length-map values told_dart); told = λ place less. absurd (omega arith) }
+
+pub telling_more : (values : List ℕ) (count : ℕ) → IsTelling (map told_dart values) values count → count < length values
+    → (get_or values count 0 ≡ 4294967295 → ⊥) → IsTelling (map told_dart values) values (count + 1)
+telling_more values count t h other = record {
+  size = t.size;
+  told = below_more _ _ t.told (told_at values count h ∙ told_other (get_or values count 0) other);
 }
 
 pub telling_ends : (followers : List (Option ℕ)) (values : List ℕ) → IsTelling followers values (length followers) → AreAllTold followers values
 telling_ends followers values t = record { size = t.size; each = t.told }
 
-pub first_untold : (followers : List (Option ℕ)) (values : List ℕ) (count : ℕ) → IsTelling followers values count → count < length followers
-    → get_or followers count None ≡ None → IsFirstUntold followers count
-first_untold followers values count t h is = record { within = h; untold = is; before = λ earlier less. (get_or values earlier 0, t.told earlier less) }
+pub first_untold : (values : List ℕ) (count : ℕ) → IsTelling (map told_dart values) values count → count < length values
+    → get_or values count 0 ≡ 4294967295 → IsFirstUntold (map told_dart values) count
+first_untold values count t h is = record {
+  within = omega (arith, h, length-map values told_dart);
+  untold = told_at values count h ∙ told_none (get_or values count 0) is;
+  before = λ earlier less. (get_or values earlier 0, t.told earlier less);
+}
 
 -- a dart that is followed
 followed : (darts after : List ℕ) (count dart value : ℕ) (o : Option ℕ) → MatchOption o ((place : ℕ) → place < count → get_or darts place 0 ≡ dart → ⊥) (IsFollowed darts after count dart)
@@ -237,14 +251,18 @@ not_followed : (darts after : List ℕ) (count dart : ℕ) (o : Option ℕ) → 
     → o ≡ None → (place : ℕ) → place < count → get_or darts place 0 ≡ dart → ⊥
 not_followed darts after count dart o m is = subst (λ x. MatchOption x ((place : ℕ) → place < count → get_or darts place 0 ≡ dart → ⊥) (IsFollowed darts after count dart)) is m
 
--- what is told of all darts is the rotation, and a dart of which nothing is told stands on no line
-pub told_rotation : (darts sizes : List ℕ) (followers : List (Option ℕ)) (answer : Result (Vec ℕ Global) MapRefusal) → AreFollowers darts (turned_lines sizes darts) (length darts) followers
-    → IsToldAnswer followers answer → IsRotationAnswer darts sizes answer
-told_rotation darts sizes followers (Ok values) are told = record {
+-- what is told of all darts is the rotation
+pub told_rotation : (darts sizes : List ℕ) (followers : List (Option ℕ)) (values : List ℕ) → AreFollowers darts (turned_lines sizes darts) (length darts) followers
+    → AreAllTold followers values → CarriesOn darts (turned_lines sizes darts) values
+told_rotation darts sizes followers values are told = record {
   size = told.size ∙ are.size;
-  each = λ dart h. followed darts (turned_lines sizes darts) (length darts) dart (get_or values.items dart 0) (get_or followers dart None) (are.each dart h) (told.each dart (omega (arith, are.size)));
+  each = λ dart h. followed darts (turned_lines sizes darts) (length darts) dart (get_or values dart 0) (get_or followers dart None) (are.each dart h) (told.each dart (omega (arith, are.size)));
 }
-told_rotation darts sizes followers (Err (NotPermutation dart)) are told =
+
+-- a dart of which nothing is told stands on no line
+pub untold_missing : (darts sizes : List ℕ) (followers : List (Option ℕ)) (dart : ℕ) → AreFollowers darts (turned_lines sizes darts) (length darts) followers
+    → IsFirstUntold followers dart → IsLeastMissing darts dart
+untold_missing darts sizes followers dart are told =
     let within : dart < length darts = omega (arith, told.within, are.size) in
     record {
       within = within;
@@ -254,11 +272,22 @@ told_rotation darts sizes followers (Err (NotPermutation dart)) are told =
           let f = followed darts (turned_lines sizes darts) (length darts) n value.0 (get_or followers n None) (are.each n (omega arith)) value.1 in
           contains_at darts n f.place f.within f.here;
     }
-told_rotation darts sizes followers (Err Memory) are told = told
-told_rotation darts sizes followers (Err (TooMany edges)) are told = told
-told_rotation darts sizes followers (Err (NotConnected dart)) are told = told
-told_rotation darts sizes followers (Err (Genus euler)) are told = told
+
+-- one dart more, as it is written
+pub written_more : (darts after : List ℕ) (count dart next : ℕ) (values : List ℕ) → AreFollowers darts after count (map told_dart values) → count < length darts → get_or darts count 0 < length darts
+    → get_or darts count 0 ≡ dart → get_or after count 0 ≡ next → next < 4294967295 → AreFollowers darts after (count + 1) (map told_dart (set values dart next))
+written_more darts after count dart next values are h below here is_next small =
+    subst (AreFollowers darts after (count + 1))
+    (sym (map-set told_dart values dart next ∙ ap (set (map told_dart values) dart) (told_some next small ∙ ap (λ (n : ℕ). Some n) (sym is_next)) ∙ ap (λ d. set (map told_dart values) d (Some (get_or after count 0))) (sym here)))
+    (followers_more darts after count (map told_dart values) are h below)
+
+-- nothing is written yet
+pub written_none : (darts after : List ℕ) → AreFollowers darts after 0 (map told_dart (replicate (length darts) 4294967295))
+written_none darts after = subst (AreFollowers darts after 0) (sym (map-replicate (length darts))) (followers_none darts after) where
+  map-replicate : (n : ℕ) → map told_dart (replicate n 4294967295) ≡ replicate n None
+  map-replicate zero = refl
+  map-replicate (suc n) = ap (λ l. None ∷ l) (map-replicate n)
 
 -- what is written through a slice of a list stands in the list
-pub written_back : (len : ℕ) (now new old : List (Option ℕ)) → now ≡ take len (new ++ drop (length new) old) → len ≡ length new → now ≡ new
+pub written_back : (len : ℕ) (now new old : List ℕ) → now ≡ take len (new ++ drop (length new) old) → len ≡ length new → now ≡ new
 written_back len now new old is size = is ∙ ap (λ n. take n (new ++ drop (length new) old)) size ∙ take-append_seam new (drop (length new) old)

@@ -1,5 +1,5 @@
 -- How the rotation is found: the dart after each place of the lines, and the dart after each dart.
-use Rattle.std.specs.Prelude.{◌≡◌, ℕ, ◌<◌, List, [], ◌∷◌, ◌++◌, All, Option, Some, None, MatchOption, Result, Ok, Err, ⊤, Vec, length, sum, map, take, drop, slice_index, slice_index_or}
+use Rattle.std.specs.Prelude.{◌≡◌, ℕ, ◌<◌, ◌==◌, if◌then◌else◌, List, [], ◌∷◌, ◌++◌, All, Option, Some, None, MatchOption, Result, Ok, Err, ⊤, Vec, length, sum, map, take, drop, slice_index, slice_index_or}
 use Rattle.std.specs.List.{concat}
 use Rattle.std.specs.declared.alloc.Global.{Global}
 use Rattle.pm_map.specs.declared.rooted_map.RootedMap.{RootedMap}
@@ -37,6 +37,10 @@ pub record AreFollowers (darts after : List ℕ) (count : ℕ) (followers : List
   pub each : (dart : ℕ) → dart < length darts
       → MatchOption (slice_index_or followers dart None) ((place : ℕ) → place < count → slice_index darts place ≡ dart → ⊥) (IsFollowed darts after count dart)
 
+-- the dart after one, as it is written: the greatest number of 32 bits stands for none
+abbrev pub told_dart : ℕ → Option ℕ
+told_dart value = if value == 4294967295 then None else Some value
+
 -- the list has the numbers that are told, and all are
 pub record AreAllTold (followers : List (Option ℕ)) (values : List ℕ) : Type 0 where
   pub size : length values ≡ length followers
@@ -47,15 +51,6 @@ pub record IsFirstUntold (followers : List (Option ℕ)) (place : ℕ) : Type 0 
   pub within : place < length followers
   pub untold : slice_index_or followers place None ≡ None
   pub before : (earlier : ℕ) → earlier < place → (value : ℕ) × (slice_index_or followers earlier None ≡ Some value)
-
--- all that is told, or the first dart that isn't
-abbrev pub IsToldAnswer : List (Option ℕ) → Result (Vec ℕ Global) MapRefusal → Type 0
-IsToldAnswer followers (Ok values) = AreAllTold followers values.items
-IsToldAnswer followers (Err (NotPermutation dart)) = IsFirstUntold followers dart
-IsToldAnswer followers (Err Memory) = ⊤
-IsToldAnswer followers (Err (TooMany edges)) = ⊥
-IsToldAnswer followers (Err (NotConnected dart)) = ⊥
-IsToldAnswer followers (Err (Genus euler)) = ⊥
 
 -- each dart is carried to the one after it
 pub record CarriesOn (darts after sigma : List ℕ) : Type 0 where
