@@ -213,12 +213,11 @@ list_line-push tag values value =
     ap (λ (ws : List (List ℕ)). join_with_byte 32 (tag ∷ ws)) (map-push values value) ∙ join-push tag (map decimal values) (decimal value)
 
 -- the next number of a list, after a space
-pub line_more : (tag values line spaced next : List ℕ) (place : ℕ) → place < length values → line ≡ list_line tag (take place values) → spaced ≡ line ++ 32 ∷ [] → next ≡ spaced ++ decimal (get_or values place 0) → next ≡ list_line tag (take (place + 1) values)
-line_more tag values line spaced next place less is a b =
+pub line_more : (tag values line next : List ℕ) (place : ℕ) → place < length values → line ≡ list_line tag (take place values) → next ≡ line ++ 32 ∷ decimal (get_or values place 0) → next ≡ list_line tag (take (place + 1) values)
+line_more tag values line next place less is a =
     let word : List ℕ = decimal (get_or values place 0) in
-    b
-    ∙ ap (λ (bytes : List ℕ). bytes ++ word) (a ∙ ap (λ (bytes : List ℕ). bytes ++ 32 ∷ []) is)
-    ∙ append_assoc (list_line tag (take place values)) (32 ∷ []) word
+    a
+    ∙ ap (λ (bytes : List ℕ). bytes ++ 32 ∷ word) is
     ∙ sym (list_line-push tag (take place values) (get_or values place 0))
     ∙ ap (list_line tag) (sym (take_more values place 0 less))
 

@@ -4,7 +4,7 @@ ghost use Rattle.pm_lists.specs.ListLine.{AreWords, SpellsList, is_tag, list_lin
 ghost use Rattle.pm_text.specs.Broken.{HasNoNewline, newline};
 
 use crate::num_list::NumList;
-use pm_text::put_number;
+use pm_text::put_spaced_number;
 use std::alloc::{AllocError, Global};
 
 /// Appends the line of the list to `text`: the tag, each number after one space, and a newline.
@@ -37,8 +37,7 @@ fn ended_line(alloc: Global, tag: &[u8], values: &[u64]) -> Result<Vec<u8>, Allo
 {
     let mut line = Vec::from_slice(alloc, tag)?;
     for value in values {
-        line.push(b' ')?;
-        put_number(alloc, *value, &mut line)?;
+        put_spaced_number(alloc, *value, &mut line)?;
     }
     line.push(b'\n')?;
     Ok(line)

@@ -6,7 +6,7 @@ ghost use Rattle.pm_mapfile.specs.steps.Printed.{AppendsLines, AppendsLine};
 
 use pm_canon::meeting_list;
 use pm_map::RootedMap;
-use pm_text::put_number;
+use pm_text::put_spaced_number;
 use std::alloc::{AllocError, Global};
 
 /// Appends the text of `map` to `text`: its darts as they are numbered, its vertices in the order in which they are met
@@ -39,7 +39,8 @@ pub fn map_bytes(alloc: Global, map: &RootedMap) -> Result<Vec<u8>, AllocError>
     let sigma = map.sigma();
     let root = map.root();
     let darts = meeting_list(alloc, sigma, root)?;
-    let mut text = Vec::new(alloc);
+    // Most darts take no more than eight bytes, with their space and their share of the other bytes of a line.
+    let mut text = Vec::with_capacity(alloc, 8 * sigma.len() + 64)?;
     put_first_line(alloc, map.edges(), root, &mut text)?;
     put_vertices(alloc, sigma, root, &darts, &mut text)?;
     text.extend_from_slice(b"end\n")?;
@@ -55,10 +56,9 @@ fn put_first_line(
 ) -> Result<(), AllocError>
     ensures { OnOk result (text.new.items ≡ text.old.items ++ map_line edges root) }
 {
-    text.extend_from_slice(b"map ")?;
-    put_number(alloc, u64::from(edges), text)?;
-    text.push(b' ')?;
-    put_number(alloc, u64::from(root), text)?;
+    text.extend_from_slice(b"map")?;
+    put_spaced_number(alloc, u64::from(edges), text)?;
+    put_spaced_number(alloc, u64::from(root), text)?;
     text.push(b'\n')?;
     Ok(())
 }
@@ -111,7 +111,5 @@ fn put_vertex(
 fn put_dart(alloc: Global, dart: u32, text: &mut Vec<u8>) -> Result<(), AllocError>
     ensures { OnOk result (text.new.items ≡ text.old.items ++ dart_words (dart ∷ [])) }
 {
-    text.push(b' ')?;
-    put_number(alloc, u64::from(dart), text)?;
-    Ok(())
+    put_spaced_number(alloc, u64::from(dart), text)
 }

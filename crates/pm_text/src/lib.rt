@@ -11,7 +11,7 @@ mod words;
 pub use form::{Form, broken_line_is_unique, valid_has_no_broken_line};
 pub use leading::{LeadingNumber, leading_number};
 pub use lines::{Line, Lines};
-pub use numbers::{number, number_has_one_spelling, put_number};
+pub use numbers::{number, number_has_one_spelling, put_number, put_spaced_number};
 pub use words::Words;
 
 #[cfg(test)]

@@ -1,5 +1,5 @@
 //! Numbers in texts.
-ghost use Rattle.std.specs.Prelude.{◌≡◌, ℕ, ◌<◌, ◌≤◌, ◌^◌, ◌++◌, ◌↔◌, length, drop, decimal, MatchOption, is_ok, if◌then◌else◌};
+ghost use Rattle.std.specs.Prelude.{◌≡◌, ℕ, ◌<◌, ◌^◌, ◌∷◌, ◌++◌, ◌↔◌, decimal, MatchOption, is_ok, if◌then◌else◌};
 ghost use Rattle.std.specs.Option.{SomeIff};
 ghost use Rattle.std.specs.Str.Parse.{AllDigits, digits_value};
 ghost use Rattle.pm_text.specs.Numeral.{IsNumber, HasOneSpelling};
@@ -50,6 +50,21 @@ pub fn put_number(_alloc: Global, value: u64, text: &mut Vec<u8>) -> Result<(), 
     let mut digits = [0u8; 20];
     let start = write_digits(value, &mut digits, 20);
     text.extend_from_slice(&digits[start..])
+}
+
+/// Appends a space and the one spelling of `value` to `text`.
+///
+/// # Errors
+///
+/// Where memory runs out; `text` is then as before.
+pub fn put_spaced_number(_alloc: Global, value: u64, text: &mut Vec<u8>) -> Result<(), AllocError>
+    ensures { text.new.items
+        ≡ (if is_ok result then text.old.items ++ 32 ∷ decimal value else text.old.items) }
+{
+    let mut bytes = [0u8; 21];
+    let start = write_digits(value, &mut bytes, 21) - 1;
+    bytes[start] = b' ';
+    text.extend_from_slice(&bytes[start..])
 }
 
 /// A law: what [`put_number`] appends is the one word that spells the number, so [`number`] reads it
