@@ -165,14 +165,14 @@ naming_exists bound darts even once =
     subst (HasNaming bound) (take_all (length darts) darts (omega arith)) (naming_to bound darts even once (length darts) (omega arith))
 
 -- the name of the dart behind the one of this name
-abbrev next_name : (names sigma : List ℕ) → ℕ → ℕ
+abbrev pub next_name : (names sigma : List ℕ) → ℕ → ℕ
 next_name names sigma name = get_or names (get_or sigma (place_of (slice_index names) (length sigma) name) 0) 0
 
 -- the rotation in which each dart goes by its name
-abbrev renamed_rotation : (names sigma : List ℕ) → List ℕ
+abbrev pub renamed_rotation : (names sigma : List ℕ) → List ℕ
 renamed_rotation names sigma = map (next_name names sigma) (range_with_len 0 (length sigma))
 
-renamed_rotation-renamed : (names sigma : List ℕ) → IsPermutationBelow (length sigma) (slice_index names) → IsRenamed names sigma (renamed_rotation names sigma)
+pub renamed_rotation-renamed : (names sigma : List ℕ) → IsPermutationBelow (length sigma) (slice_index names) → IsRenamed names sigma (renamed_rotation names sigma)
 renamed_rotation-renamed names sigma permutes = record {
   size = length-map-range_with_len (next_name names sigma) 0 (length sigma);
   carried = λ d h.

@@ -1,6 +1,7 @@
 mod CanonLemmas
 pub mod ExistenceLemmas
 pub mod KeptLemmas
+pub mod ListLemmas
 pub mod MeetingLemmas
 mod MentionLemmas
 mod NamingLemmas

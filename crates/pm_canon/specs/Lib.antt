@@ -1,3 +1,4 @@
 pub mod Laws
 pub mod MeetingOrder
 pub mod steps
+pub mod VertexList

@@ -7,10 +7,12 @@ ghost use Rattle.pm_map.specs.Rotation.{structure_of};
 ghost use Rattle.pm_map.specs.Structure.{Same};
 
 mod laws;
+mod listing;
 mod meeting;
 mod naming;
 
 pub use laws::canonical_exists;
+pub use listing::{VertexList, canonical_vertex_list, vertex_list};
 pub use meeting::meeting_list;
 use pm_map::RootedMap;
 use std::alloc::{AllocError, Global};
