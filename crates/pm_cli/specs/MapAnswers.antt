@@ -7,7 +7,6 @@ use Rattle.pm_map.specs.declared.refusal.MapRefusal.{MapRefusal}
 use Rattle.pm_map.specs.declared.refusal.MapRefusal.TheVariants.{Memory as MemoryOfMap, TooMany, NotPermutation, NotConnected, Genus}
 use Rattle.pm_map.specs.declared.class_refusal.ClassRefusal.{ClassRefusal}
 use Rattle.pm_map.specs.declared.class_refusal.ClassRefusal.TheVariants as class
-use Rattle.pm_map.specs.Canonical.{IsCanonicalOf}
 use Rattle.pm_map.specs.ClassRules.{IsLeastOther}
 use Rattle.pm_map.specs.Plane.{vertices, edges, faces}
 use Rattle.pm_map.specs.Rotation.{RotationSystem, structure_of, IsRootedMap}
@@ -15,7 +14,7 @@ use Rattle.pm_map.specs.DualLaws.{IsDualOf}
 use Rattle.pm_medial.specs.Medial.{IsMedialMap, IsUnmedialOf}
 use Rattle.pm_mapfile.specs.Answers.{AnswersFile}
 use Rattle.pm_mapfile.specs.MapFile.{IsMapFile}
-use Rattle.pm_mapfile.specs.MapText.{IsMapText}
+pub use Rattle.pm_mapfile.specs.MapText.{HasCanonicalText}
 use Rattle.pm_open.specs.Opening.{IsOpening}
 use Rattle.pm_cli.specs.declared.command.MapTask.{MapTask}
 use Rattle.pm_cli.specs.declared.command.MapTask.TheVariants.{Print, OpenEulerian}
@@ -81,12 +80,6 @@ pub data AnswersMap (relation : MapRelation) (bytes : List ℕ) : Result (List �
 abbrev pub Tells : (RotationSystem → List ℕ → Type 0) → RotationSystem → Result (List ℕ) ClassRefusal → Type 0
 Tells text_of map (Ok text) = text_of map text
 Tells text_of map (Err why) = ⊥
-
--- the text of the canonical map
-pub record HasCanonicalText (map : RotationSystem) (text : List ℕ) : Type 0 where
-  pub canonical : RotationSystem
-  pub is_canonical : IsCanonicalOf map canonical
-  pub is_text : IsMapText canonical text
 
 -- the text of the canonical map of another map, which is an image of the map
 pub record HasTextOf (image : RotationSystem → RotationSystem → Type 0) (map : RotationSystem) (text : List ℕ) : Type 0 where

@@ -3,10 +3,10 @@ ghost use Rattle.pm_io.specs.declared.TheConstants.{MAX_BYTES as limit};
 ghost use Rattle.pm_cli.specs.Closing.{ClosesEulerian};
 ghost use Rattle.pm_cli.specs.steps.Answering.{IsAnswerBy};
 
-use crate::printing::canonical_text;
 use crate::refusal::{Refusal, Stop, TreeRule};
 use crate::tree_file::read_tree_file;
 use pm_close::{CloseRefusal, close_tree};
+use pm_mapfile::canonical_bytes;
 use std::alloc::Global;
 
 // `close eulerian`: the text of the canonical map of the closure of the tree in the file.
@@ -22,5 +22,5 @@ pub(crate) fn close_eulerian(alloc: Global, bytes: &[u8]) -> Result<Vec<u8>, Sto
             return Err(Stop::Refused(Refusal::Tree(TreeRule::Matched { bud })));
         }
     };
-    Ok(canonical_text(alloc, &closed.map)?)
+    Ok(canonical_bytes(alloc, &closed.map)?)
 }

@@ -1,27 +1,17 @@
 //! The commands that print the canonical map of another map.
-ghost use Rattle.std.specs.Prelude.{◌≤◌, length, IfOk};
+ghost use Rattle.std.specs.Prelude.{◌≤◌, length};
 ghost use Rattle.pm_io.specs.declared.TheConstants.{MAX_BYTES as limit};
 ghost use Rattle.pm_cli.specs.declared.command.Image.TheVariants.{Canon, Medial, Unmedial, Dual};
-ghost use Rattle.pm_cli.specs.MapAnswers.{AnswersMap, HasCanonicalText, image_relation};
+ghost use Rattle.pm_cli.specs.MapAnswers.{AnswersMap, image_relation};
 ghost use Rattle.pm_cli.specs.steps.Answering.{IsAnswerBy};
 
 use crate::command::Image;
 use crate::map_file::map_of_file;
 use crate::refusal::{MapRule, Refusal, Stop};
-use pm_canon::canon;
 use pm_limits::MAX_EDGES;
-use pm_map::RootedMap;
-use pm_mapfile::map_bytes;
+use pm_mapfile::canonical_bytes;
 use pm_medial::{MedialRefusal, UnmedialRefusal, dual, medial, unmedial};
-use std::alloc::{AllocError, Global};
-
-// The text of the canonical map that is the same.
-pub(crate) fn canonical_text(alloc: Global, map: &RootedMap) -> Result<Vec<u8>, AllocError>
-    ensures { IfOk result (λ text. HasCanonicalText map.now text.items) }
-{
-    let canonical = canon(alloc, map)?;
-    map_bytes(alloc, &canonical)
-}
+use std::alloc::Global;
 
 // The text of the canonical map of an image of the map in the file.
 pub(crate) fn print(alloc: Global, image: Image, bytes: &[u8]) -> Result<Vec<u8>, Stop>
@@ -42,7 +32,7 @@ fn canonize(alloc: Global, bytes: &[u8]) -> Result<Vec<u8>, Stop>
     ensures { IsAnswerBy (AnswersMap (image_relation Canon) bytes.now) result }
 {
     let map = map_of_file(alloc, bytes, MAX_EDGES)?;
-    Ok(canonical_text(alloc, &map)?)
+    Ok(canonical_bytes(alloc, &map)?)
 }
 
 // `medial`
@@ -59,7 +49,7 @@ fn print_medial(alloc: Global, bytes: &[u8]) -> Result<Vec<u8>, Stop>
         Err(MedialRefusal::Memory) => return Err(Stop::Memory),
         Err(MedialRefusal::TooMany { .. }) => unreachable!(),
     };
-    Ok(canonical_text(alloc, &image)?)
+    Ok(canonical_bytes(alloc, &image)?)
 }
 
 // `unmedial`
@@ -78,7 +68,7 @@ fn print_unmedial(alloc: Global, bytes: &[u8]) -> Result<Vec<u8>, Stop>
             return Err(Stop::Refused(Refusal::Map(MapRule::Vertex { dart })));
         }
     };
-    Ok(canonical_text(alloc, &image)?)
+    Ok(canonical_bytes(alloc, &image)?)
 }
 
 // `dual`
@@ -88,5 +78,5 @@ fn print_dual(alloc: Global, bytes: &[u8]) -> Result<Vec<u8>, Stop>
 {
     let map = map_of_file(alloc, bytes, MAX_EDGES)?;
     let image = dual(alloc, &map)?;
-    Ok(canonical_text(alloc, &image)?)
+    Ok(canonical_bytes(alloc, &image)?)
 }

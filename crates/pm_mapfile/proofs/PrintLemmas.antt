@@ -1,20 +1,14 @@
--- A vertex and a list of vertices, printed so far.
-use Rattle.std.proofs.Common.{◌≡◌, ◌≢◌, ℕ, ◌+◌, ◌-◌, ◌<◌, ◌≤◌, List, [], ◌∷◌, ◌++◌, length, get_or, refl, sym, ◌∙◌, ap, subst, arith, append_assoc, length-append, Contains}
-use Rattle.std.specs.Prelude.{decimal, codes}
-use Rattle.std.proofs.lemmas.List.{append-nil, length_push, get_or-append_right, get_or_append_left}
-use Rattle.pm_perm.proofs.Contained.{contains_none}
-use Rattle.pm_perm.specs.Permutation.{IsPermutationBelow}
-use Rattle.pm_map.specs.Structure.{Structure}
-use Rattle.pm_map.specs.Meeting.{IsVertexFrom, darts_of, Meets, at_root, onward, IsMeetingList, no_dart, complete}
-use Rattle.pm_map.proofs.UniqueMeeting.{vertex_begins, vertex_is_unique}
-use Rattle.pm_map.proofs.CarriedMeeting.{darts_of-append}
-use Rattle.pm_canon.specs.MeetingOrder.{HasEachOnce, IsMeetingOrder}
-use Rattle.pm_canon.specs.steps.Kept.{IsWhole, IsKept}
-use Rattle.pm_canon.proofs.KeptLemmas.{HasEachOnce-push, HasEachOnce-length}
-use Rattle.pm_canon.proofs.MeetingLemmas.{IsKept-none}
-use Rattle.pm_canon.proofs.WalkLemmas.{IsWay, IsWay-one, IsWay-push, IsWay-fresh, IsWay-vertex, IsWay-below}
-use Rattle.pm_mapfile.specs.MapText.{dart_words, vertex_line, vertex_lines}
-use Rattle.pm_mapfile.specs.steps.Printed.{AppendsLine, AppendsLines}
+-- The lines of vertices, printed one after another.
+use Rattle.std.proofs.Common.{◌≡◌, ℕ, ◌+◌, ◌-◌, ◌/◌, ◌<◌, ◌≤◌, List, [], ◌∷◌, ◌++◌, length, take, drop, map, get_or, refl, sym, ◌∙◌, ap, arith, append_assoc, length-append}
+use Rattle.std.specs.Prelude.{decimal, codes, sum, Result, Ok, Err, IfOk, Vec}
+use Rattle.std.specs.declared.alloc.Global.{Global}
+use Rattle.std.proofs.lemmas.List.{append-nil, take_more, drop_more, drop-drop, drop_all, take_at, drop_at}
+use Rattle.std.proofs.lemmas.List.Sums.{sum_by-append}
+use Rattle.pm_map.specs.Rotation.{RotationSystem, structure_of}
+use Rattle.pm_map.specs.Meeting.{darts_of}
+use Rattle.pm_canon.specs.VertexList.{IsVertexList, IsCanonicalList}
+use Rattle.pm_mapfile.specs.MapText.{dart_words, vertex_line, vertex_lines, map_line, HasCanonicalText, IsMapText}
+use Rattle.pm_mapfile.specs.steps.Printed.{cut}
 
 pub dart_words-append : (first second : List ℕ) → dart_words (first ++ second) ≡ dart_words first ++ dart_words second
 dart_words-append [] second = refl
@@ -26,137 +20,89 @@ vertex_lines-append [] second = refl
 vertex_lines-append (v ∷ first) second =
     ap (λ l. vertex_line v ++ l) (vertex_lines-append first second) ∙ sym (append_assoc (vertex_line v) (vertex_lines first) (vertex_lines second))
 
--- the darts of a vertex that are printed so far
-pub record IsPrinting (s : Structure) (start : ℕ) (old text : List ℕ) (count dart : ℕ) : Type 0 where
-  pub way : List ℕ
-  pub is_way : IsWay s start way dart
-  pub once : HasEachOnce s.darts way
-  pub size : count ≡ length way
-  pub printed : text ≡ old ++ (codes "v" ++ dart_words way)
+-- one dart more of a line
+pub line_goes_on : (vertex old text new : List ℕ) (count : ℕ) → count < length vertex → text ≡ old ++ (codes "v" ++ dart_words (take count vertex))
+    → new ≡ text ++ 32 ∷ decimal (get_or vertex count 0) → new ≡ old ++ (codes "v" ++ dart_words (take (count + 1) vertex))
+line_goes_on vertex old text new count h is added =
+    let dart = get_or vertex count 0 in
+    added ∙ ap (λ l. l ++ 32 ∷ decimal dart) is ∙ append_assoc old (codes "v" ++ dart_words (take count vertex)) (32 ∷ decimal dart)
+    ∙ ap (λ l. old ++ (118 ∷ (dart_words (take count vertex) ++ 32 ∷ l))) (sym (append-nil (decimal dart)))
+    ∙ ap (λ l. old ++ (codes "v" ++ l)) (sym (dart_words-append (take count vertex) (dart ∷ [])) ∙ ap dart_words (sym (take_more vertex count 0 h)))
 
-none_once : (s : Structure) → HasEachOnce s.darts []
-none_once s = let kept : IsKept s [] [] = IsKept-none s 0 in kept.once
+-- the lists that a list of vertices was made of
+pub cut-list : (vertices : List (List ℕ)) → cut (map length vertices) (darts_of vertices) ≡ vertices
+cut-list [] = refl
+cut-list (v ∷ vertices) =
+    ap (λ l. l ∷ cut (map length vertices) (drop (length v) (v ++ darts_of vertices))) (take_at v (darts_of vertices) (length v) refl)
+    ∙ ap (λ l. v ∷ cut (map length vertices) l) (drop_at v (darts_of vertices) (length v) refl) ∙ ap (λ l. v ∷ l) (cut-list vertices)
 
-none_whole : (s : Structure) → IsWhole s []
-none_whole s = let kept : IsKept s [] [] = IsKept-none s 0 in kept.whole
+sum_more : (n : ℕ) (ns : List ℕ) → sum (n ∷ ns) ≡ n + sum ns
+sum_more n ns = let e : sum (n ∷ ns) ≡ sum (n ∷ []) + sum ns = sum_by-append (λ k. k) (n ∷ []) ns in omega (arith, e)
 
-pub IsPrinting-begins : (s : Structure) (start : ℕ) (old one text : List ℕ) → start < s.darts → one ≡ old ++ codes "v" → text ≡ one ++ dart_words (start ∷ []) → IsPrinting s start old text 1 (s.next start)
-IsPrinting-begins s start old one text below first second = record {
-  way = start ∷ [];
-  is_way = IsWay-one s start;
-  once = HasEachOnce-push s.darts [] start (none_once s) below (contains_none start);
-  size = refl;
-  printed = second ∙ ap (λ l. l ++ dart_words (start ∷ [])) first ∙ append_assoc old (codes "v") (dart_words (start ∷ []));
-}
+sum-list : (vertices : List (List ℕ)) → sum (map length vertices) ≡ length (darts_of vertices)
+sum-list [] = refl
+sum-list (v ∷ vertices) = omega (arith, sum_more (length v) (map length vertices), sum-list vertices, length-append v (darts_of vertices))
 
-pub IsPrinting-step : (s : Structure) (start : ℕ) (old text new : List ℕ) (count dart : ℕ) → IsPermutationBelow s.darts s.next → IsPrinting s start old text count dart → dart ≢ start
-    → new ≡ text ++ dart_words (dart ∷ []) → IsPrinting s start old new (count + 1) (s.next dart)
-IsPrinting-step s start old text new count dart turns p more added =
-    let fresh : Contains p.way dart → ⊥ = IsWay-fresh s [] start p.way dart turns (none_whole s) p.once p.is_way more in
+-- the lines that are printed, and those to come
+pub record IsCutting (sizes darts old text : List ℕ) (count start : ℕ) : Type 0 where
+  pub left : start + sum (drop count sizes) ≡ length darts
+  pub printed : old ++ vertex_lines (cut sizes darts) ≡ text ++ vertex_lines (cut (drop count sizes) (drop start darts))
+
+pub cutting_begins : (sizes darts old : List ℕ) → sum sizes ≡ length darts → IsCutting sizes darts old old 0 0
+cutting_begins sizes darts old total = record { left = omega (arith, total); printed = refl }
+
+pub cutting_fits : (sizes darts old text : List ℕ) (count start : ℕ) → IsCutting sizes darts old text count start → count < length sizes → start + get_or sizes count 0 ≤ length darts
+cutting_fits sizes darts old text count start c h =
+    omega (arith, c.left, ap sum (drop_more sizes count 0 h), sum_more (get_or sizes count 0) (drop (count + 1) sizes))
+
+pub cutting_more : (sizes darts old text new : List ℕ) (count start : ℕ) → IsCutting sizes darts old text count start → count < length sizes
+    → new ≡ text ++ vertex_line (take (start + get_or sizes count 0 - start) (drop start darts)) → IsCutting sizes darts old new (count + 1) (start + get_or sizes count 0)
+cutting_more sizes darts old text new count start c h added =
+    let size = get_or sizes count 0 in
+    let rest = drop (count + 1) sizes in
+    let long : start + size - start ≡ size = omega arith in
+    let vertex = take size (drop start darts) in
+    let later = vertex_lines (cut rest (drop size (drop start darts))) in
     record {
-      way = p.way ++ dart ∷ [];
-      is_way = IsWay-push s start p.way dart p.is_way more;
-      once = HasEachOnce-push s.darts p.way dart p.once (IsWay-below s [] start p.way dart turns p.once p.is_way) fresh;
-      size = omega (arith, p.size, length_push p.way dart);
-      printed = added ∙ ap (λ l. l ++ dart_words (dart ∷ [])) p.printed ∙ append_assoc old (codes "v" ++ dart_words p.way) (dart_words (dart ∷ []))
-          ∙ ap (λ l. old ++ l) (append_assoc (codes "v") (dart_words p.way) (dart_words (dart ∷ [])) ∙ ap (λ l. codes "v" ++ l) (sym (dart_words-append p.way (dart ∷ []))));
+      left = omega (arith, c.left, ap sum (drop_more sizes count 0 h), sum_more size rest);
+      printed = c.printed ∙ ap (λ l. text ++ vertex_lines (cut l (drop start darts))) (drop_more sizes count 0 h)
+          ∙ sym (append_assoc text (vertex_line vertex) later)
+          ∙ ap (λ l. l ++ later) (sym (added ∙ ap (λ n. text ++ vertex_line (take n (drop start darts))) long))
+          ∙ ap (λ l. new ++ vertex_lines (cut rest l)) (drop-drop size start darts);
     }
 
-pub IsPrinting-below : (s : Structure) (start : ℕ) (old text : List ℕ) (count dart : ℕ) → IsPermutationBelow s.darts s.next → IsPrinting s start old text count dart → dart < s.darts
-IsPrinting-below s start old text count dart turns p = IsWay-below s [] start p.way dart turns p.once p.is_way
+pub cutting_ends : (sizes darts old text : List ℕ) (count start : ℕ) → IsCutting sizes darts old text count start → length sizes ≤ count → text ≡ old ++ vertex_lines (cut sizes darts)
+cutting_ends sizes darts old text count start c all =
+    sym (append-nil text) ∙ ap (λ l. text ++ vertex_lines (cut l (drop start darts))) (sym (drop_all count sizes all)) ∙ sym c.printed
 
-pub IsPrinting-count : (s : Structure) (start : ℕ) (old text : List ℕ) (count dart : ℕ) → IsPrinting s start old text count dart → count ≤ s.darts
-IsPrinting-count s start old text count dart p = omega (arith, p.size, HasEachOnce-length s.darts p.way p.once)
+-- what the printed list has
+pub list_total : (m : RotationSystem) (darts sizes : List ℕ) → IsVertexList (structure_of m) darts sizes → sum sizes ≡ length darts
+list_total m darts sizes list = ap sum list.sizes_are ∙ sum-list list.vertices ∙ ap length (sym list.darts_are)
 
-pub IsPrinting-all : (s : Structure) (start : ℕ) (old text new : List ℕ) (count dart : ℕ) → IsPrinting s start old text count dart → dart ≡ start → new ≡ text ++ 10 ∷ [] → AppendsLine s start count old new
-IsPrinting-all s start old text new count dart p back ended = record {
-  vertex = p.way;
-  is_vertex = IsWay-vertex s start p.way (subst (λ d. IsWay s start p.way d) back p.is_way);
-  size = p.size;
-  appended = ended ∙ ap (λ l. l ++ 10 ∷ []) p.printed ∙ append_assoc old (codes "v" ++ dart_words p.way) (10 ∷ []);
+pub list_cut : (m : RotationSystem) (darts sizes : List ℕ) → (list : IsVertexList (structure_of m) darts sizes) → cut sizes darts ≡ list.vertices
+list_cut m darts sizes list = ap (λ l. cut l darts) list.sizes_are ∙ ap (cut (map length list.vertices)) list.darts_are ∙ cut-list list.vertices
+
+pub list_text : (m : RotationSystem) (edges root : ℕ) (darts sizes text : List ℕ) → IsVertexList (structure_of m) darts sizes → edges ≡ length m.sigma / 2 → root ≡ m.root
+    → text ≡ map_line edges root ++ vertex_lines (cut sizes darts) ++ codes "end\n" → IsMapText m text
+list_text m edges root darts sizes text list is_edges is_root printed = record {
+  vertices = list.vertices;
+  is_list = list.is_list;
+  is_text = printed ∙ ap (λ n. map_line n root ++ vertex_lines (cut sizes darts) ++ codes "end\n") is_edges
+      ∙ ap (λ n. map_line (length m.sigma / 2) n ++ vertex_lines (cut sizes darts) ++ codes "end\n") is_root
+      ∙ ap (λ l. map_line (length m.sigma / 2) m.root ++ vertex_lines l ++ codes "end\n") (list_cut m darts sizes list);
 }
 
--- each of the lists is a vertex from its first dart
-pub data AreVertices (s : Structure) : List (List ℕ) → Type 0 where
-  none : AreVertices s []
-  some : (d : ℕ) (vertex : List ℕ) (vertices : List (List ℕ)) → IsVertexFrom s d vertex → AreVertices s vertices → AreVertices s (vertex ∷ vertices)
-
-AreVertices-push : (s : Structure) (vertices : List (List ℕ)) (d : ℕ) (vertex : List ℕ) → AreVertices s vertices → IsVertexFrom s d vertex → AreVertices s (vertices ++ vertex ∷ [])
-AreVertices-push s [] d vertex none is = some d vertex [] is none
-AreVertices-push s (v ∷ vertices) d vertex (some e _ _ first rest) is = some e v (vertices ++ vertex ∷ []) first (AreVertices-push s vertices d vertex rest is)
-
-AreVertices-meets : (s : Structure) (vertices : List (List ℕ)) → Meets s vertices → AreVertices s vertices
-AreVertices-meets s vertices (at_root vertex is) = some s.root vertex [] is none
-AreVertices-meets s vertices (onward before d vertex met unmet is) = AreVertices-push s before (s.twin d) vertex (AreVertices-meets s before met) is
-
-pub AreVertices-list : (s : Structure) (vertices : List (List ℕ)) → IsMeetingList s vertices → AreVertices s vertices
-AreVertices-list s vertices (no_dart _) = none
-AreVertices-list s vertices (complete vs _ met _) = AreVertices-meets s vs met
-
--- the vertices that are printed so far, and those to come
-pub record ArePrinting (s : Structure) (darts old text : List ℕ) (place : ℕ) : Type 0 where
-  pub done : List (List ℕ)
-  pub rest : List (List ℕ)
-  pub is_list : IsMeetingList s (done ++ rest)
-  pub to_come : AreVertices s rest
-  pub order : darts ≡ darts_of done ++ darts_of rest
-  pub at : place ≡ length (darts_of done)
-  pub printed : text ≡ old ++ vertex_lines done
-
-pub ArePrinting-none : (s : Structure) (darts old : List ℕ) → IsMeetingOrder s darts → ArePrinting s darts old old 0
-ArePrinting-none s darts old o = record {
-  done = [];
-  rest = o.vertices;
-  is_list = o.is_list;
-  to_come = AreVertices-list s o.vertices o.is_list;
-  order = o.order;
-  at = refl;
-  printed = sym (append-nil old);
-}
-
-onward_printing : (s : Structure) (darts old text new : List ℕ) (place count : ℕ) (done rest : List (List ℕ)) → IsMeetingList s (done ++ rest) → AreVertices s rest
-    → darts ≡ darts_of done ++ darts_of rest → place ≡ length (darts_of done) → text ≡ old ++ vertex_lines done
-    → place < length darts → AppendsLine s (get_or darts place 0) count text new → ArePrinting s darts old new (place + count)
-onward_printing s darts old text new place count done [] is_list none order at printed h a = absurd (omega (arith, ap length order, ap length (append-nil (darts_of done))))
-onward_printing s darts old text new place count done (v ∷ rest) is_list (some d _ _ is later) order at printed h a =
-    let begins = vertex_begins s d v is in
-    let first : get_or darts place 0 ≡ d =
-    ap (λ l. get_or l place 0) order ∙ get_or-append_right (darts_of done) (v ++ darts_of rest) (length (darts_of done)) place 0 refl (omega arith)
-    ∙ ap (λ k. get_or (v ++ darts_of rest) k 0) (let none_between : place - length (darts_of done) ≡ 0 = omega arith in none_between)
-    ∙ get_or_append_left v (darts_of rest) 0 0 begins.0 ∙ begins.1 in
-    let same : a.vertex ≡ v = vertex_is_unique s d a.vertex v (subst (λ e. IsVertexFrom s e a.vertex) first a.is_vertex) is in
-    let more : darts_of (done ++ v ∷ []) ≡ darts_of done ++ v = darts_of-append done (v ∷ []) ∙ ap (λ l. darts_of done ++ l) (append-nil v) in
-    let lines : vertex_lines (done ++ v ∷ []) ≡ vertex_lines done ++ vertex_line v = vertex_lines-append done (v ∷ []) ∙ ap (λ l. vertex_lines done ++ l) (append-nil (vertex_line v)) in
+pub canonical_text : (m : RotationSystem) (edges : ℕ) (darts sizes text : List ℕ) → IsCanonicalList m darts sizes → edges ≡ length m.sigma / 2
+    → text ≡ map_line edges 0 ++ vertex_lines (cut sizes darts) ++ codes "end\n" → HasCanonicalText m text
+canonical_text m edges darts sizes text list is_edges printed =
+    let as_long : length m.sigma ≡ length list.canonical.sigma = list.is_canonical.is_same.1.darts in
     record {
-      done = done ++ v ∷ [];
-      rest = rest;
-      is_list = subst (λ l. IsMeetingList s l) (sym (append_assoc done (v ∷ []) rest)) is_list;
-      to_come = later;
-      order = order ∙ sym (append_assoc (darts_of done) v (darts_of rest)) ∙ ap (λ l. l ++ darts_of rest) (sym more);
-      at = omega (arith, a.size, ap length same, ap length more, length-append (darts_of done) v);
-      printed = a.appended ∙ ap (λ l. l ++ vertex_line a.vertex) printed ∙ append_assoc old (vertex_lines done) (vertex_line a.vertex)
-          ∙ ap (λ l. old ++ l) (ap (λ w. vertex_lines done ++ vertex_line w) same ∙ sym lines);
+      canonical = list.canonical;
+      is_canonical = list.is_canonical;
+      is_text = list_text list.canonical edges 0 darts sizes text list.list (is_edges ∙ ap (λ n. n / 2) as_long) (sym list.is_canonical.is_canonical.root) printed;
     }
 
-pub ArePrinting-onward : (s : Structure) (darts old text new : List ℕ) (place count : ℕ) → ArePrinting s darts old text place → place < length darts
-    → AppendsLine s (get_or darts place 0) count text new → ArePrinting s darts old new (place + count)
-ArePrinting-onward s darts old text new place count p h a = onward_printing s darts old text new place count p.done p.rest p.is_list p.to_come p.order p.at p.printed h a
-
-none_to_come : (s : Structure) (vertices : List (List ℕ)) → AreVertices s vertices → length (darts_of vertices) ≡ 0 → vertices ≡ []
-none_to_come s [] none empty = refl
-none_to_come s (v ∷ vertices) (some d _ _ is later) empty =
-    let begins = vertex_begins s d v is in absurd (omega (arith, begins.0, length-append v (darts_of vertices)))
-
-pub ArePrinting-all : (s : Structure) (darts old text : List ℕ) (place : ℕ) → ArePrinting s darts old text place → length darts ≤ place → AppendsLines s old text
-ArePrinting-all s darts old text place p ends =
-    let empty : length (darts_of p.rest) ≡ 0 = omega (arith, ap length p.order, length-append (darts_of p.done) (darts_of p.rest), p.at) in
-    let last : p.done ++ p.rest ≡ p.done = ap (λ l. p.done ++ l) (none_to_come s p.rest p.to_come empty) ∙ append-nil p.done in
-    record { vertices = p.done; is_list = subst (λ l. IsMeetingList s l) last p.is_list; appended = p.printed }
-
--- a place is at most the number of darts
-pub ArePrinting-place : (s : Structure) (darts old text : List ℕ) (place : ℕ) → ArePrinting s darts old text place → place ≤ length darts
-ArePrinting-place s darts old text place p = omega (arith, ap length p.order, length-append (darts_of p.done) (darts_of p.rest), p.at)
-
--- a line has a dart
-pub AppendsLine-some : (s : Structure) (start count : ℕ) (old new : List ℕ) → AppendsLine s start count old new → 0 < count
-AppendsLine-some s start count old new a = let begins = vertex_begins s start a.vertex a.is_vertex in omega (arith, a.size, begins.0)
+-- what follows for the text of an `Ok`
+pub text_is : {E : Type 0} (r : Result (Vec ℕ Global) E) (P Q : List ℕ → Type 0) → IfOk r (λ text. P text.items) → ((text : List ℕ) → P text → Q text) → IfOk r (λ text. Q text.items)
+text_is (Ok text) P Q h follows = follows text.items h
+text_is (Err e) P Q h follows = tt

@@ -21,7 +21,8 @@ use Rattle.pm_mapfile.specs.MapFile.{MapLines, IsVertexLine, AreMapLines}
 use Rattle.pm_mapfile.specs.Vertices.{GoesAround}
 use Rattle.pm_mapfile.specs.Answers.{TellsRotation}
 use Rattle.pm_mapfile.specs.ReadAgain.{MapTextIsReadAgain, MapFileIsReadAgain, SampleFileIsReadAgain}
-use Rattle.pm_mapfile.proofs.PrintLemmas.{AreVertices, none, some, AreVertices-list}
+use Rattle.pm_canon.specs.steps.Sizing.{AreVertices, none, some}
+use Rattle.pm_canon.proofs.ListLemmas.{AreVertices-list}
 
 -- the darts of the vertices are those of the lines
 darts_of-concat : (vertices : List (List ℕ)) → darts_of vertices ≡ concat vertices

@@ -2,6 +2,7 @@
 use Rattle.std.specs.Prelude.{◌≡◌, ℕ, ◌/◌, List, [], ◌∷◌, ◌++◌, length, decimal, codes}
 use Rattle.pm_map.specs.Rotation.{RotationSystem, structure_of}
 use Rattle.pm_map.specs.Meeting.{IsMeetingList}
+use Rattle.pm_map.specs.Canonical.{IsCanonicalOf}
 
 -- a space before each dart (32 is the space, 10 the newline)
 abbrev pub dart_words : List ℕ → List ℕ
@@ -40,3 +41,9 @@ pub record AppendsMapText (m : RotationSystem) (old new : List ℕ) : Type 0 whe
   pub bytes : List ℕ
   pub is_map_text : IsMapText m bytes
   pub appended : new ≡ old ++ bytes
+
+-- the text of the canonical map
+pub record HasCanonicalText (map : RotationSystem) (text : List ℕ) : Type 0 where
+  pub canonical : RotationSystem
+  pub is_canonical : IsCanonicalOf map canonical
+  pub is_text : IsMapText canonical text

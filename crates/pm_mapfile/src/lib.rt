@@ -13,7 +13,7 @@ mod write;
 pub use answer::{read_map, read_map_file, read_sample_file};
 pub use laws::{map_file_answer_is_unique, printed_map_is_read_again};
 pub use refusal::FileRefusal;
-pub use write::{map_bytes, map_has_one_text, put_map};
+pub use write::{canonical_bytes, map_bytes, map_has_one_text, put_map};
 
 #[cfg(test)]
 mod tests;

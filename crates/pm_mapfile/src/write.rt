@@ -1,10 +1,8 @@
-ghost use Rattle.std.specs.Prelude.{◌≡◌, ◌*◌, ◌++◌, ◌∷◌, ◌<◌, [], length, IfOk, OnOk, OnErr};
-ghost use Rattle.pm_map.specs.Rotation.{IsRootedMap, RotationSystem, structure_of};
-ghost use Rattle.pm_canon.specs.MeetingOrder.{IsMeetingOrder};
-ghost use Rattle.pm_mapfile.specs.MapText.{dart_words, map_line, HasOneText, IsMapText, AppendsMapText};
-ghost use Rattle.pm_mapfile.specs.steps.Printed.{AppendsLines, AppendsLine};
+ghost use Rattle.std.specs.Prelude.{◌≡◌, ◌++◌, codes, length, sum, IfOk, OnOk, OnErr};
+ghost use Rattle.pm_mapfile.specs.MapText.{map_line, vertex_line, vertex_lines, HasCanonicalText, HasOneText, IsMapText, AppendsMapText};
+ghost use Rattle.pm_mapfile.specs.steps.Printed.{cut};
 
-use pm_canon::meeting_list;
+use pm_canon::{canonical_vertex_list, vertex_list};
 use pm_map::RootedMap;
 use pm_text::put_spaced_number;
 use std::alloc::{AllocError, Global};
@@ -36,13 +34,38 @@ pub fn map_has_one_text()
 pub fn map_bytes(alloc: Global, map: &RootedMap) -> Result<Vec<u8>, AllocError>
     ensures { IfOk result (λ bytes. IsMapText map.now bytes.items) }
 {
-    let sigma = map.sigma();
-    let root = map.root();
-    let darts = meeting_list(alloc, sigma, root)?;
+    let list = vertex_list(alloc, map)?;
+    list_bytes(alloc, map.edges(), map.root(), &list.darts, &list.sizes)
+}
+
+/// The text of the canonical map that is the same as `map`. The canonical map itself isn't made.
+///
+/// # Errors
+///
+/// Where memory runs out.
+pub fn canonical_bytes(alloc: Global, map: &RootedMap) -> Result<Vec<u8>, AllocError>
+    ensures { IfOk result (λ bytes. HasCanonicalText map.now bytes.items) }
+{
+    let list = canonical_vertex_list(alloc, map)?;
+    list_bytes(alloc, map.edges(), 0, &list.darts, &list.sizes)
+}
+
+/// The text of a map with this root, where `darts` are those of all vertices, one vertex after another, and `sizes` tell
+/// how many each has.
+fn list_bytes(
+    alloc: Global,
+    edges: u32,
+    root: u32,
+    darts: &[u32],
+    sizes: &[u32],
+) -> Result<Vec<u8>, AllocError>
+    requires { sum sizes.now ≡ length darts.now }
+    ensures { IfOk result (λ bytes. bytes.items ≡ map_line edges root ++ vertex_lines (cut sizes.now darts.now) ++ codes "end\n") }
+{
     // Most darts take no more than eight bytes, with their space and their share of the other bytes of a line.
-    let mut text = Vec::with_capacity(alloc, 8 * sigma.len() + 64)?;
-    put_first_line(alloc, map.edges(), root, &mut text)?;
-    put_vertices(alloc, sigma, root, &darts, &mut text)?;
+    let mut text = Vec::with_capacity(alloc, 16 * edges as usize + 64)?;
+    put_first_line(alloc, edges, root, &mut text)?;
+    put_vertices(alloc, darts, sizes, &mut text)?;
     text.extend_from_slice(b"end\n")?;
     Ok(text)
 }
@@ -63,53 +86,33 @@ fn put_first_line(
     Ok(())
 }
 
-/// Appends the lines of all vertices, where `darts` are the darts in the order in which they are met.
+/// Appends the lines of all vertices.
 fn put_vertices(
     alloc: Global,
-    sigma: &[u32],
-    root: u32,
     darts: &[u32],
+    sizes: &[u32],
     text: &mut Vec<u8>,
 ) -> Result<(), AllocError>
-    requires map { IsRootedMap (record { sigma = sigma.now; root = root }) }
-    requires order { IsMeetingOrder (structure_of (record { sigma = sigma.now; root = root })) darts.now }
-    ensures { OnOk result (AppendsLines (structure_of (record { sigma = sigma.now; root = root })) text.old.items text.new.items) }
+    requires { sum sizes.now ≡ length darts.now }
+    ensures { OnOk result (text.new.items ≡ text.old.items ++ vertex_lines (cut sizes.now darts.now)) }
 {
-    let mut place = 0;
-    'lines: while place < darts.len() {
-        place += put_vertex(alloc, sigma, root, darts[place], text)?;
+    let mut start = 0;
+    'lines: for size in sizes {
+        let end = start + *size as usize;
+        put_vertex(alloc, &darts[start..end], text)?;
+        start = end;
     }
     Ok(())
 }
 
-/// Appends the line of the vertex of `start`, from `start` on, and answers the number of its darts.
-fn put_vertex(
-    alloc: Global,
-    sigma: &[u32],
-    root: u32,
-    start: u32,
-    text: &mut Vec<u8>,
-) -> Result<usize, AllocError>
-    requires map { IsRootedMap (record { sigma = sigma.now; root = root }) }
-    requires within { start < length sigma.now }
-    ensures { IfOk result (λ count. AppendsLine (structure_of (record { sigma = sigma.now; root = root })) start count text.old.items text.new.items) }
+/// Appends the line of the vertex of these darts.
+fn put_vertex(alloc: Global, vertex: &[u32], text: &mut Vec<u8>) -> Result<(), AllocError>
+    ensures { OnOk result (text.new.items ≡ text.old.items ++ vertex_line vertex.now) }
 {
     text.push(b'v')?;
-    put_dart(alloc, start, text)?;
-    let mut count = 1;
-    let mut dart = sigma[start as usize];
-    'walk: while dart != start {
-        put_dart(alloc, dart, text)?;
-        count += 1;
-        dart = sigma[dart as usize];
+    'darts: for dart in vertex {
+        put_spaced_number(alloc, u64::from(*dart), text)?;
     }
     text.push(b'\n')?;
-    Ok(count)
-}
-
-/// Appends a space and the spelling of the dart.
-fn put_dart(alloc: Global, dart: u32, text: &mut Vec<u8>) -> Result<(), AllocError>
-    ensures { OnOk result (text.new.items ≡ text.old.items ++ dart_words (dart ∷ [])) }
-{
-    put_spaced_number(alloc, u64::from(dart), text)
+    Ok(())
 }

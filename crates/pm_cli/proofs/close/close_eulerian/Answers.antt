@@ -27,8 +27,8 @@ returns c = closed _ (record {
     balanced = let h = c.in-Ok.ensures in h.balanced;
     closed = c.in-Ok.closed.map;
     is_closed = let h = c.in-Ok.ensures in h.is_closed;
-    canonical = let h = c.in_ok-canonical_text.ensures in h.canonical;
-    is_canonical = let h = c.in_ok-canonical_text.ensures in h.is_canonical;
-    is_text = let h = c.in_ok-canonical_text.ensures in h.is_text;
+    canonical = let h = c.in_ok-canonical_bytes.ensures in h.canonical;
+    is_canonical = let h = c.in_ok-canonical_bytes.ensures in h.is_canonical;
+    is_text = let h = c.in_ok-canonical_bytes.ensures in h.is_text;
   };
 })

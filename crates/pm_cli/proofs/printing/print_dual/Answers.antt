@@ -18,6 +18,6 @@ returns c =
         other = c.in_ok-image.image;
         rooted = dual_is_rooted c.in_ok-map.map c.in_ok-image.image (rooted_map c.args.bytes.now _ c.in_ok-map.ensures.0 c.in_ok-map.map c.in_ok-map.ensures.1) c.in_ok-image.ensures;
         is_image = c.in_ok-image.ensures;
-        is_text = c.in_ok-canonical_text.ensures;
+        is_text = c.in_ok-canonical_bytes.ensures;
       };
     })

@@ -35,6 +35,6 @@ returns c =
             (filled _ (c.if-is_empty.ensures ∙ ap (λ (sigma : List ℕ). length sigma == 0) c.sigma.ensures.sigma))
             (omega (arith, c.in-Ok.ensures.few, c.map.invariant.even)) c.in-Ok.ensures.is_medial;
         is_image = c.in-Ok.ensures.is_medial;
-        is_text = c.in_ok-canonical_text.ensures;
+        is_text = c.in_ok-canonical_bytes.ensures;
       });
     })

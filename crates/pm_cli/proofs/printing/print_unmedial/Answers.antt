@@ -38,5 +38,5 @@ returns c =
       map = c.in_ok-map.map;
       answered = c.in_ok-map.ensures.1;
       holds = has_unmedial _ (filled _ (c.if-is_empty.ensures ∙ ap (λ (sigma : List ℕ). length sigma == 0) c.sigma.ensures.sigma))
-          (record { other = c.in-Ok.image; rooted = c.in-Ok.ensures.rooted; is_image = c.in-Ok.ensures; is_text = c.in_ok-canonical_text.ensures });
+          (record { other = c.in-Ok.image; rooted = c.in-Ok.ensures.rooted; is_image = c.in-Ok.ensures; is_text = c.in_ok-canonical_bytes.ensures });
     })
