@@ -6,6 +6,7 @@ pub mod RoomLemmas
 pub mod VertexLemmas
 pub mod FormLemmas
 pub mod FileLemmas
+pub mod FileLimits
 pub mod ResidueLemmas
 pub mod SampleLemmas
 pub mod AnswerLemmas
