@@ -18,7 +18,7 @@ use Rattle.pm_cli.proofs.OpenedAgain.{opened_again, closed_again}
 use Rattle.pm_cli.proofs.SampledAgain.{sampled_again}
 
 -- the words of a command have the answer of that command
-of_reader : (words : List (List ℕ)) (reader : Reader) (bytes text : List ℕ) (answer : Result (List ℕ) Refusal) → Spells words (Reads reader) → Answers words bytes answer → answer ≡ Ok text
+pub of_reader : (words : List (List ℕ)) (reader : Reader) (bytes text : List ℕ) (answer : Result (List ℕ) Refusal) → Spells words (Reads reader) → Answers words bytes answer → answer ≡ Ok text
     → AnswersReader reader bytes (Ok text)
 of_reader words reader bytes text _ spells (no_command k none) e = absurd (none.none (Reads reader) spells)
 of_reader words reader bytes text _ spells (too_long other x long) e = cc

@@ -3,6 +3,8 @@ pub mod ChoicesLines
 pub mod ClassLaws
 pub mod CommandWords
 pub mod EndingLemmas
+pub mod HeadlineFiles
+pub mod HeadlineLemmas
 pub mod NoUsage
 pub mod OneAnswer
 pub mod OneClosing

@@ -1,11 +1,10 @@
 -- Words and bytes have one answer.
 use Rattle.std.proofs.Common.{◌≡◌, ℕ, List, refl, ap, subst, arith}
 use Rattle.std.specs.Prelude.{Result, Err}
+use Rattle.pm_class.specs.OneToOne.{AreOneToOne}
 use Rattle.pm_class.specs.Sampling.{HasOneAnswer as HasOneSize}
 use Rattle.pm_cli.specs.declared.class.Class.{Class}
-use Rattle.pm_cli.specs.declared.class.Class.TheVariants as class
 use Rattle.pm_cli.specs.declared.class.Size.{Size}
-use Rattle.pm_cli.specs.declared.class.Size.TheVariants as sizes
 use Rattle.pm_cli.specs.declared.command.Command.TheVariants.{Reads, Makes}
 use Rattle.pm_cli.specs.declared.command.Maker.{Maker}
 use Rattle.pm_cli.specs.declared.command.Maker.TheVariants.{Draw, Trip}
@@ -14,28 +13,17 @@ use Rattle.pm_cli.specs.declared.command.Reader.TheVariants.{CloseEulerian, OfMa
 use Rattle.pm_cli.specs.declared.refusal.Refusal.{Refusal}
 use Rattle.pm_cli.specs.declared.refusal.Refusal.TheVariants.{Usage}
 use Rattle.pm_cli.specs.Answer.{checking, AnswersReader, AnswersSize, no_command, too_long, of_file, of_size}
-use Rattle.pm_cli.specs.Classes.{Sampler, general_sampler, quartic_sampler, eulerian_sampler, bipartite_sampler, sampler_of, AtSize, at_size, sized, IsSize, InClass, class_at}
+use Rattle.pm_cli.specs.Classes.{Sampler, sampler_of, AtSize, sized, IsSize, InClass, class_at}
 use Rattle.pm_cli.specs.Commands.{IsReader}
 use Rattle.pm_cli.specs.Laws.{HasOneAnswer}
 use Rattle.pm_cli.specs.MapAnswers.{task_relation}
 use Rattle.pm_cli.specs.steps.ClassLaws.{IsSampler}
-use Rattle.pm_cli.proofs.ClassLaws.{AreSamplers}
+use Rattle.pm_cli.proofs.ClassLaws.{AreSamplers, sized_laws}
 use Rattle.pm_cli.proofs.CommandWords.{one_command}
 use Rattle.pm_cli.proofs.OneClosing.{closes_once}
 use Rattle.pm_cli.proofs.OneMapAnswer.{map_answers_once, one_counting, one_task}
 use Rattle.pm_cli.proofs.OneSampling.{samples_once, draws_once, trips_once}
 use Rattle.pm_cli.proofs.OneUnsampling.{HasOneUnsampling, one_unsampling, unsamples_once}
-use Rattle.pm_class.specs.Sampling.{HasOneSample}
-use Rattle.pm_lists.specs.Valid.{IsValidList}
-use Rattle.pm_map.specs.Rotation.{RotationSystem}
-
--- what the laws of a class say at one size
-record HasSizeLaws (at : AtSize) : Type 0 where
-  one_sample : HasOneSample at.samples
-  valid : (choices : List ℕ) (m : RotationSystem) (r : List ℕ) → at.samples choices m r → IsValidList choices at.choice_limits
-
-size_laws : (S : Sampler) → IsSampler S → (size : S.Measure) → S.is_size size → HasSizeLaws (at_size S size)
-size_laws S laws size is = let one = laws.one_to_one size is in record { one_sample = one.one_sample; valid = λ c m r h. let only = one.only c m r h in only.valid }
 
 pub same_reader : {r s : Reader} → Reads r ≡ Reads s → r ≡ s
 same_reader e = cc
@@ -44,11 +32,8 @@ pub reads_or_makes : {r : Reader} {t : Maker} {s : Size} → Reads r ≡ Makes t
 reads_or_makes e = cc
 
 module _ (laws : AreSamplers) where
-  sized_laws : (size : Size) → IsSize size → HasSizeLaws (sized size)
-  sized_laws (sizes.General size) is = size_laws general_sampler (laws class.General) size is
-  sized_laws (sizes.Quartic size) is = size_laws quartic_sampler (laws class.Quartic) size is
-  sized_laws (sizes.Eulerian profile) is = size_laws eulerian_sampler (laws class.Eulerian) profile is
-  sized_laws (sizes.Bipartite profile) is = size_laws bipartite_sampler (laws class.Bipartite) profile is
+  one_at : (size : Size) → IsSize size → (let at : AtSize = sized size in AreOneToOne at.choice_limits at.residue_limits at.has at.samples)
+  one_at size is = let at = sized_laws laws size is in at.one_to_one
 
   one_count : (c : Class) → HasOneSize (let at : InClass = class_at c in at.counts)
   one_count c =
@@ -65,12 +50,12 @@ module _ (laws : AreSamplers) where
   reads_once (OfMap task) is bytes a b x y = map_answers_once (task_relation task) (one_task task) bytes a b x y
   reads_once (Check class) is bytes a b x y = map_answers_once (checking (class_at class)) (one_count class) bytes a b x y
   reads_once (Unsample class) is bytes a b x y = unsamples_once (class_at class) (one_pair class) bytes a b x y
-  reads_once (Sample size) is bytes a b x y = let one = sized_laws size is in samples_once (sized size) one.one_sample one.valid bytes a b x y
+  reads_once (Sample size) is bytes a b x y = let one = one_at size is in samples_once (sized size) one.one_sample (λ c m r h. let only = one.only c m r h in only.valid) bytes a b x y
 
   -- and one to a size
   makes_once : (task : Maker) (size : Size) → IsSize size → (a b : Result (List ℕ) Refusal) → AnswersSize task (sized size) a → AnswersSize task (sized size) b → a ≡ b
-  makes_once (Draw seed count) size is a b x y = let one = sized_laws size is in draws_once (sized size) one.one_sample one.valid seed count a b x y
-  makes_once (Trip seed) size is a b x y = let one = sized_laws size is in trips_once (sized size) one.one_sample seed a b x y
+  makes_once (Draw seed count) size is a b x y = let one = one_at size is in draws_once (sized size) one.one_sample (λ c m r h. let only = one.only c m r h in only.valid) seed count a b x y
+  makes_once (Trip seed) size is a b x y = let one = one_at size is in trips_once (sized size) one.one_sample seed a b x y
 
   same_task : {t u : Maker} {r s : Size} → Makes t r ≡ Makes u s → t ≡ u
   same_task e = cc

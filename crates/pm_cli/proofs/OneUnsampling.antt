@@ -32,7 +32,7 @@ module _ (S : Sampler) (laws : IsSampler S) where
   abbrev Unsampled : RotationSystem → List ℕ → Result (List ℕ) UnsampleRefusal → Type 0
   Unsampled = IsUnsampling S.choice_limits S.residue_limits S.samples S.answers
 
-  one_size : (m : RotationSystem) (a b : S.Measure) → IsRootedMap m → S.answers m (Ok a) → S.answers m (Ok b) → a ≡ b
+  pub one_size : (m : RotationSystem) (a b : S.Measure) → IsRootedMap m → S.answers m (Ok a) → S.answers m (Ok b) → a ≡ b
   one_size m a b rooted x y = same_value (laws.one_answer m (Ok a) (Ok b) rooted x y (λ e. value_or_why e) (λ e. value_or_why e))
 
   one_unsampled : (m : RotationSystem) (residue a b : List ℕ) → IsRootedMap m → Unsampled m residue (Ok a) → Unsampled m residue (Ok b) → a ≡ b
@@ -47,7 +47,7 @@ module _ (S : Sampler) (laws : IsSampler S) where
   not_in_class : (m : RotationSystem) (size : S.Measure) (why : ClassRefusal) → IsRootedMap m → S.answers m (Ok size) → Unsampled m [] (Err (pair.Class why)) → ⊥
   not_in_class m size why rooted x y = value_or_why (laws.one_answer m (Ok size) (Err why) rooted x y.0 (λ e. value_or_why e) (λ e. y.1 (same_why e)))
 
-  not_wrong : (m : RotationSystem) (residue : List ℕ) (size : S.Measure) (refusal : ListRefusal) → IsRootedMap m → S.answers m (Ok size) → Unsampled m residue (Err (pair.List refusal))
+  pub not_wrong : (m : RotationSystem) (residue : List ℕ) (size : S.Measure) (refusal : ListRefusal) → IsRootedMap m → S.answers m (Ok size) → Unsampled m residue (Err (pair.List refusal))
       → IsRefusalOf residue (S.residue_limits size) refusal
   not_wrong m residue size refusal rooted x y = subst (λ (s : S.Measure). IsRefusalOf residue (S.residue_limits s) refusal) (one_size m y.0 size rooted y.1.0 x) y.1.1
 
@@ -74,16 +74,16 @@ refused_pair : (limit : ℕ) (bytes : List ℕ) (refusal : Refusal) → RefusesS
 refused_pair limit bytes refusal h = refused_file IsSampleFile (MakesNoPair bytes limit) bytes (IsSampleFileAnswer bytes limit) (λ line broken. broken) (λ why made other. (made, other)) refusal h
 
 -- a file doesn't make a map and none
-not_both : (limit : ℕ) (Q : RotationSystem → List ℕ → Type 0) (bytes : List ℕ) (refusal : Refusal) → HasPair bytes limit Q → RefusesSampleFile limit bytes refusal → ⊥
+pub not_both : (limit : ℕ) (Q : RotationSystem → List ℕ → Type 0) (bytes : List ℕ) (refusal : Refusal) → HasPair bytes limit Q → RefusesSampleFile limit bytes refusal → ⊥
 not_both limit Q bytes refusal x y =
     read_or_refused (IsSampleFileAnswer bytes limit) (one_sample_answer bytes limit) (x.map, x.residue) refusal x.answered (refused_pair limit bytes refusal y)
 
 -- it makes one map, a rooted one, and has one residue
-record IsOnePair {bytes : List ℕ} {limit : ℕ} {Q R : RotationSystem → List ℕ → Type 0} (x : HasPair bytes limit Q) (y : HasPair bytes limit R) : Type 0 where
-  holds : Q y.map y.residue
-  rooted : IsRootedMap y.map
+pub record IsOnePair {bytes : List ℕ} {limit : ℕ} {Q R : RotationSystem → List ℕ → Type 0} (x : HasPair bytes limit Q) (y : HasPair bytes limit R) : Type 0 where
+  pub holds : Q y.map y.residue
+  pub rooted : IsRootedMap y.map
 
-one_pair : (limit : ℕ) (Q R : RotationSystem → List ℕ → Type 0) (bytes : List ℕ) (x : HasPair bytes limit Q) (y : HasPair bytes limit R) → IsOnePair x y
+pub one_pair : (limit : ℕ) (Q R : RotationSystem → List ℕ → Type 0) (bytes : List ℕ) (x : HasPair bytes limit Q) (y : HasPair bytes limit R) → IsOnePair x y
 one_pair limit Q R bytes x y =
     let same = same_value (one_sample_answer bytes limit (Ok (x.map, x.residue)) (Ok (y.map, y.residue)) x.answered y.answered (λ e. value_or_why e) (λ e. value_or_why e)) in
     record {

@@ -49,7 +49,7 @@ given_back laws class.Eulerian map residue choices rooted is =
 given_back laws class.Bipartite map residue choices rooted is =
     record { size = sizes.Bipartite is.size; is_of = refl; admissible = is_size bipartite_sampler (laws class.Bipartite) map is.size rooted is.in_class; canonical = is.canonical; is_canonical = is.is_canonical; given = is.given }
 
-unsampled_pair : (at : InClass) (bytes text : List ℕ) (answer : Result (List ℕ) Refusal) → Unsamples at bytes answer → answer ≡ Ok text
+pub unsampled_pair : (at : InClass) (bytes text : List ℕ) (answer : Result (List ℕ) Refusal) → Unsamples at bytes answer → answer ≡ Ok text
     → HasPair bytes at.most_edges (λ map residue. HasUnsampledText (at.unsamples map residue) text)
 unsampled_pair at bytes text _ (unsampled other h) e = subst (λ (t : List ℕ). HasPair bytes at.most_edges (λ map residue. HasUnsampledText (at.unsamples map residue) t)) (same_value e) h
 unsampled_pair at bytes text _ (no_map refusal h) e = cc

@@ -89,10 +89,18 @@ sampler_of class.Bipartite = bipartite_sampler
 pub record AtSize : Type 1 where
   pub is_size : Type 0
   pub choice_limits : List ℕ
+  pub residue_limits : List ℕ
+  pub has : RotationSystem → Type 0
   pub samples : List ℕ → RotationSystem → List ℕ → Type 0
 
 abbrev pub at_size : (S : Sampler) → S.Measure → AtSize
-at_size S size = record { is_size = S.is_size size; choice_limits = S.choice_limits size; samples = S.samples size }
+at_size S size = record {
+  is_size = S.is_size size;
+  choice_limits = S.choice_limits size;
+  residue_limits = S.residue_limits size;
+  has = S.has size;
+  samples = S.samples size;
+}
 
 abbrev pub sized : Size → AtSize
 sized (sizes.General size) = at_size general_sampler size

@@ -4,6 +4,7 @@ pub mod Closing
 pub mod Commands
 pub mod Drawing
 pub mod Ending
+pub mod Headline
 pub mod Laws
 pub mod Lines
 pub mod MapAnswers

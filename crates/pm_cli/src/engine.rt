@@ -4,10 +4,12 @@ ghost use Rattle.pm_io.specs.Bytes.{added};
 ghost use Rattle.pm_io.specs.Faults.{FaultsRose};
 ghost use Rattle.pm_cli.specs.declared.refusal.Stop.{Stop};
 ghost use Rattle.pm_cli.specs.Ending.{Ends, IsTold, HasNothingLeft, ReadInput, ReadNothing, WriteWhole};
+ghost use Rattle.pm_cli.specs.Headline.{IsHeadline};
 ghost use Rattle.pm_cli.specs.Lines.{status_of, status_of_stop};
 ghost use Rattle.pm_cli.specs.steps.Streams.{IsReading, IsToldFor};
 
 use crate::answer::answer;
+use crate::class_laws::each_class_has_laws;
 use crate::command::Command;
 use crate::draw::make;
 use crate::refusal::{Limit, Refusal, Stop};
@@ -146,7 +148,18 @@ pub fn run<S: Source, O: Sink, E: Sink>(
     ensures calm_input { result ≢ 5 → S.faults input.new ≡ S.faults input.old }
     ensures write { result ≡ 8 → FaultsRose (O.faults out.old) (O.faults out.new) }
     ensures calm_output { result ≢ 8 → O.faults out.new ≡ O.faults out.old }
+
+    // For every class and admissible size, where the run was quiet: each valid list is sampled, each pair is unsampled, lists
+    // and pairs are one to one, and all else is refused.
+    ensures headline { IsHeadline (record {
+      words = map string_bytes words.now;
+      input = record { before = S.left input.old; after = S.left input.new; faults_before = S.faults input.old; faults_after = S.faults input.new };
+      output = record { before = O.holds out.old; after = O.holds out.new; faults_before = O.faults out.old; faults_after = O.faults out.new };
+      error = record { before = E.holds err.old; after = E.holds err.new; faults_before = E.faults err.old; faults_after = E.faults err.new };
+      status = result;
+    }) }
 {
+    each_class_has_laws();
     match perform(alloc, words, input, out) {
         Ok(()) => 0,
         Err(stop) => tell(alloc, stop, err).status(),

@@ -7,7 +7,7 @@ use pm_euler::{Eulerian, Quartic};
 use pm_general::{Bipartite, General};
 
 // The laws of a class, as one bundle.
-fn law<C: MapClass>()
+pub(crate) fn law<C: MapClass>()
     ensures { IsSampler (record {
       Measure = C.Size;
       most_edges = C.MOST_EDGES;

@@ -5,6 +5,7 @@ mod answer;
 mod check;
 mod choices_file;
 mod class;
+mod class_laws;
 mod close;
 mod command;
 mod draw;

@@ -28,7 +28,13 @@ pub(crate) fn sample<C: MapClass>(
 ) -> Result<Vec<u8>, Stop>
     requires bytes { length bytes.now ≤ limit }
     requires size { C.is_size size.now }
-    ensures { IsAnswerBy (Samples (record { is_size = C.is_size size.now; choice_limits = C.choice_limits size.now; samples = C.samples size.now }) bytes.now) result }
+    ensures { IsAnswerBy (Samples (record {
+      is_size = C.is_size size.now;
+      choice_limits = C.choice_limits size.now;
+      residue_limits = C.residue_limits size.now;
+      has = C.has size.now;
+      samples = C.samples size.now;
+    }) bytes.now) result }
 {
     let choices = read_choices(alloc, bytes)?;
     let sample = match C::sample(alloc, size, choices.values()) {
