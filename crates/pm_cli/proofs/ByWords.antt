@@ -3,19 +3,25 @@ use Rattle.std.proofs.Common.{◌≡◌, ℕ, ◌≤◌, List, length, refl, sub
 use Rattle.std.specs.Prelude.{Result, Ok}
 use Rattle.pm_io.specs.declared.TheConstants.{MAX_BYTES}
 use Rattle.pm_cli.specs.declared.command.Command.TheVariants.{Reads, Makes}
+use Rattle.pm_cli.specs.declared.command.Image.{Image}
 use Rattle.pm_cli.specs.declared.command.MapTask.TheVariants.{Print, OpenEulerian}
-use Rattle.pm_cli.specs.declared.command.Image.TheVariants.{Canon}
+use Rattle.pm_cli.specs.declared.command.Image.TheVariants.{Canon, Medial, Unmedial, Dual}
 use Rattle.pm_cli.specs.declared.command.Reader.{Reader}
-use Rattle.pm_cli.specs.declared.command.Reader.TheVariants.{CloseEulerian, OfMap, Unsample, Sample}
+use Rattle.pm_cli.specs.declared.command.Reader.TheVariants.{CloseEulerian, OfMap, Check, Unsample, Sample}
 use Rattle.pm_cli.specs.declared.refusal.Refusal.{Refusal}
 use Rattle.pm_cli.specs.Answer.{Answers, no_command, too_long, of_file, of_size, AnswersReader}
+use Rattle.pm_cli.specs.Classes.{class_of}
 use Rattle.pm_cli.specs.Commands.{IsReader, Spells, spelling}
-use Rattle.pm_cli.specs.Laws.{AnswersByWords, ClosedTreesOpenByWords, OpenedMapsCloseByWords, UnsampledPairsReturnByWords}
+use Rattle.pm_cli.specs.Laws.{AnswersByWords, ClosedTreesOpen, OpenedMapsClose, PrintsMap, PrintedMapsStay, ImagesReturn, DualsReturn, MedialsReturn, UnmedialsReturn, SampledListsReturn, SampledMapsAreCounted, UnsampledPairsReturn}
+use Rattle.pm_cli.specs.MapAnswers.{counts_line}
 use Rattle.pm_cli.proofs.ClassLaws.{AreSamplers}
 use Rattle.pm_cli.proofs.CommandWords.{one_command}
 use Rattle.pm_cli.proofs.OneAnswer.{same_reader, reads_or_makes}
-use Rattle.pm_cli.proofs.OpenedAgain.{opened_again, closed_again}
-use Rattle.pm_cli.proofs.SampledAgain.{sampled_again}
+use Rattle.pm_cli.proofs.ImagesAgain.{duals_return, medials_return, unmedials_return}
+use Rattle.pm_cli.proofs.OpenedAgain.{opened_again, closed_again, opened_within}
+use Rattle.pm_cli.proofs.PrintedAgain.{printed, printed_within, printed_maps_stay}
+use Rattle.pm_cli.proofs.SampleFiles.{sampled_lists_return, sampled_maps_are_counted, sample_within}
+use Rattle.pm_cli.proofs.SampledAgain.{sampled_again, unsampled_within}
 
 -- the words of a command have the answer of that command
 pub of_reader : (words : List (List ℕ)) (reader : Reader) (bytes text : List ℕ) (answer : Result (List ℕ) Refusal) → Spells words (Reads reader) → Answers words bytes answer → answer ≡ Ok text
@@ -32,14 +38,77 @@ by_words reader is bytes text h = of_reader (spelling (Reads reader)) reader byt
 to_words : (reader : Reader) → IsReader reader → (bytes text : List ℕ) → length bytes ≤ MAX_BYTES → AnswersReader reader bytes (Ok text) → AnswersByWords reader bytes (Ok text)
 to_words reader is bytes text within h = of_file reader (record { is_command = is; same = refl }) within (Ok text) h
 
-pub opened_by_words : ClosedTreesOpenByWords
-opened_by_words bytes text within x = to_words (OfMap OpenEulerian) tt text bytes within (opened_again bytes text (by_words CloseEulerian tt bytes text x))
+pub opened_by_words : ClosedTreesOpen AnswersByWords
+opened_by_words bytes text x =
+    let closes = by_words CloseEulerian tt bytes text x in
+    to_words (OfMap OpenEulerian) tt text bytes (printed_within text (printed CloseEulerian bytes text tt closes)) (opened_again bytes text closes)
 
-pub closed_by_words : OpenedMapsCloseByWords
-closed_by_words bytes text canonical within x y =
-    to_words CloseEulerian tt text canonical within (closed_again bytes text canonical (by_words (OfMap OpenEulerian) tt bytes text x) (by_words (OfMap (Print Canon)) tt bytes canonical y))
+pub closed_by_words : OpenedMapsClose AnswersByWords
+closed_by_words bytes text canonical x y =
+    let opens = by_words (OfMap OpenEulerian) tt bytes text x in
+    to_words CloseEulerian tt text canonical (opened_within bytes text opens) (closed_again bytes text canonical opens (by_words (OfMap (Print Canon)) tt bytes canonical y))
 
-pub sampled_by_words : AreSamplers → UnsampledPairsReturnByWords
-sampled_by_words laws class bytes text canonical within x y =
-    let again = sampled_again laws class bytes text canonical (by_words (Unsample class) tt bytes text x) (by_words (OfMap (Print Canon)) tt bytes canonical y) in
-    record { again = again; sampled = to_words (Sample again.size) again.admissible text _ within again.sampled }
+reader_of : (reader : Reader) → PrintsMap reader → IsReader reader
+reader_of CloseEulerian is = tt
+reader_of (OfMap task) is = tt
+reader_of (Check class) is = tt
+reader_of (Unsample class) is = tt
+reader_of (Sample size) is = absurd is
+
+pub printed_by_words : PrintedMapsStay AnswersByWords
+printed_by_words reader bytes text is x =
+    let prints = by_words reader (reader_of reader is) bytes text x in
+    to_words (OfMap (Print Canon)) tt text text (printed_within text (printed reader bytes text is prints)) (printed_maps_stay reader bytes text is prints)
+
+-- an image of an image, by words
+image_by_words : (there back : Image) → ImagesReturn AnswersReader (OfMap (Print there)) (OfMap (Print back)) → ImagesReturn AnswersByWords (OfMap (Print there)) (OfMap (Print back))
+image_by_words there back returns bytes text canonical x y =
+    let turns = by_words (OfMap (Print there)) tt bytes text x in
+    to_words (OfMap (Print back)) tt text canonical (printed_within text (printed (OfMap (Print there)) bytes text tt turns))
+    (returns bytes text canonical turns (by_words (OfMap (Print Canon)) tt bytes canonical y))
+
+pub duals_by_words : DualsReturn AnswersByWords
+duals_by_words = image_by_words Dual Dual duals_return
+
+pub medials_by_words : MedialsReturn AnswersByWords
+medials_by_words = image_by_words Medial Unmedial medials_return
+
+pub unmedials_by_words : UnmedialsReturn AnswersByWords
+unmedials_by_words = image_by_words Unmedial Medial unmedials_return
+
+pub lists_by_words : AreSamplers → SampledListsReturn AnswersByWords
+lists_by_words laws size bytes text is x =
+    let samples = by_words (Sample size) is bytes text x in
+    to_words (Unsample (class_of size)) tt text bytes (sample_within laws size bytes text is samples) (sampled_lists_return laws size bytes text is samples)
+
+pub counted_by_words : AreSamplers → SampledMapsAreCounted AnswersByWords
+counted_by_words laws size bytes text is x =
+    let samples = by_words (Sample size) is bytes text x in
+    let read = sampled_maps_are_counted laws size bytes text is samples in
+    let has = read.holds in
+    record {
+      choices = read.choices;
+      spelled = read.spelled;
+      holds = record {
+        map = has.map;
+        residue = has.residue;
+        sampled = has.sampled;
+        counted = to_words (Check (class_of size)) tt text (counts_line has.map) (sample_within laws size bytes text is samples) has.counted;
+      };
+    }
+
+pub sampled_by_words : AreSamplers → UnsampledPairsReturn AnswersByWords
+sampled_by_words laws class bytes text canonical x y =
+    let unsamples = by_words (Unsample class) tt bytes text x in
+    let again = sampled_again laws class bytes text canonical unsamples (by_words (OfMap (Print Canon)) tt bytes canonical y) in
+    record {
+      size = again.size;
+      is_of = again.is_of;
+      admissible = again.admissible;
+      of_map = again.of_map;
+      front = again.front;
+      line = again.line;
+      is_line = again.is_line;
+      ends_so = again.ends_so;
+      sampled = to_words (Sample again.size) again.admissible text _ (unsampled_within laws class bytes text unsamples) again.sampled;
+    }

@@ -5,6 +5,7 @@ pub mod CommandWords
 pub mod EndingLemmas
 pub mod HeadlineFiles
 pub mod HeadlineLemmas
+pub mod ImagesAgain
 pub mod NoUsage
 pub mod OneAnswer
 pub mod OneClosing
@@ -14,8 +15,10 @@ pub mod OneText
 pub mod OneUnsampling
 pub mod OpenedAgain
 pub mod PairTexts
+pub mod PrintedAgain
 pub mod Records
 pub mod Refusals
+pub mod SampleFiles
 pub mod SampledAgain
 pub mod Sizes
 pub mod StoppingWords

@@ -1,8 +1,10 @@
 -- `open eulerian` undoes `close eulerian`, and `close eulerian` undoes `open eulerian` up to the names of darts.
-use Rattle.std.proofs.Common.{◌≡◌, ℕ, List, [], refl, subst}
-use Rattle.std.specs.Prelude.{None, Result, Ok}
+use Rattle.std.proofs.Common.{◌≡◌, ℕ, ◌≤◌, List, [], ◌∷◌, ◌++◌, length, length-append, refl, ap, subst, arith}
+use Rattle.std.specs.Prelude.{codes, None, Result, Ok}
 use Rattle.std.proofs.lemmas.List.{append-nil}
+use Rattle.pm_io.specs.declared.TheConstants.{MAX_BYTES}
 use Rattle.pm_limits.specs.declared.TheConstants.{MAX_EDGES}
+use Rattle.pm_text.specs.Broken.{newline}
 use Rattle.pm_map.specs.Rotation.{RotationSystem, structure_of}
 use Rattle.pm_map.proofs.SameMaps.{same_symmetric, same_transitive}
 use Rattle.pm_map.proofs.UniqueCanonical.{canonical_map_is_rooted}
@@ -10,11 +12,13 @@ use Rattle.pm_mapfile.specs.Answers.{AnswersFile}
 use Rattle.pm_mapfile.proofs.ReadAgainLemmas.{map_file_is_read_again}
 use Rattle.pm_close.proofs.PlaneMap.{rooted_closure}
 use Rattle.pm_cli.specs.declared.refusal.Refusal.{Refusal}
+use Rattle.pm_cli.specs.Answer.{AnswersReader}
 use Rattle.pm_cli.specs.Laws.{ClosedTreesOpen, OpenedMapsClose}
 use Rattle.pm_cli.specs.Closing.{ClosesTo, ClosesEulerian, closed, no_tree, matched}
 use Rattle.pm_cli.specs.MapAnswers.{HasMap, MapRelation, AnswersMap, told, no_map, breaks, HasCanonicalText, HasOpenText, Opens, opened, no_dart, other_degree, task_relation}
 use Rattle.pm_cli.specs.TreeFile.{HasWord}
 use Rattle.pm_cli.specs.declared.command.MapTask.TheVariants.{Print, OpenEulerian}
+use Rattle.pm_cli.specs.declared.command.Reader.TheVariants.{OfMap}
 use Rattle.pm_cli.specs.declared.command.Image.TheVariants.{Canon}
 use Rattle.pm_map.specs.declared.class_refusal.ClassRefusal.{ClassRefusal}
 use Rattle.pm_cli.proofs.OneMapAnswer.{one_map, same_value}
@@ -34,13 +38,13 @@ open_text m text _ (opened other h) e = subst (HasOpenText m) (same_value e) h
 open_text m text _ (no_dart h) e = cc
 open_text m text _ (other_degree dart h) e = cc
 
-closed_word : (bytes text : List ℕ) (answer : Result (List ℕ) Refusal) → ClosesEulerian bytes answer → answer ≡ Ok text → HasWord bytes (ClosesTo text)
+pub closed_word : (bytes text : List ℕ) (answer : Result (List ℕ) Refusal) → ClosesEulerian bytes answer → answer ≡ Ok text → HasWord bytes (ClosesTo text)
 closed_word bytes text _ (closed other h) e = subst (λ (t : List ℕ). HasWord bytes (ClosesTo t)) (same_text e) h
 closed_word bytes text _ (no_tree refusal h) e = cc
 closed_word bytes text _ (matched bud h) e = cc
 
 -- the text of a closed tree is a map file, and its map opens to the tree
-pub opened_again : ClosedTreesOpen
+pub opened_again : ClosedTreesOpen AnswersReader
 opened_again bytes text is =
     let closes = closed_word bytes text (Ok text) is refl in
     let closing = closes.holds in
@@ -66,7 +70,7 @@ opened_again bytes text is =
     })
 
 -- the tree of an opened map closes to the same map, whose canonical map is that of the map
-pub closed_again : OpenedMapsClose
+pub closed_again : OpenedMapsClose AnswersReader
 closed_again bytes text canonical opens canonizes =
     let x = told_map (task_relation OpenEulerian) bytes text (Ok text) opens refl in
     let y = told_map (task_relation (Print Canon)) bytes canonical (Ok canonical) canonizes refl in
@@ -92,3 +96,11 @@ closed_again bytes text canonical opens canonizes =
         is_text = has.is_text;
       };
     })
+
+-- a tree file of an opening is within the limit of bytes
+pub opened_within : (bytes text : List ℕ) → AnswersReader (OfMap OpenEulerian) bytes (Ok text) → length text ≤ MAX_BYTES
+opened_within bytes text opens =
+    let x = told_map (task_relation OpenEulerian) bytes text (Ok text) opens refl in
+    let tree = open_text x.map text (Ok text) x.holds refl in
+    let short = tree.opened.blossoming.short in
+    omega (arith, short, ap length tree.is_text.spelled, length-append (codes "tree ") (tree.word ++ newline ∷ []), length-append tree.word (newline ∷ []))

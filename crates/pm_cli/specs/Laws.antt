@@ -1,69 +1,104 @@
 -- What holds of the answer.
-use Rattle.std.specs.Prelude.{◌≡◌, ℕ, List, ◌++◌, Result, Ok, ◌≤◌, length}
+use Rattle.std.specs.Prelude.{◌≡◌, ℕ, List, ◌++◌, Result, Ok, ⊤}
+use Rattle.pm_limits.specs.declared.TheConstants.{MAX_EDGES}
+use Rattle.pm_map.specs.Rotation.{RotationSystem}
 use Rattle.pm_mapfile.specs.MapFile.{IsResidueLine}
 use Rattle.pm_cli.specs.declared.class.Class.{Class}
 use Rattle.pm_cli.specs.declared.class.Size.{Size}
 use Rattle.pm_cli.specs.declared.command.MapTask.TheVariants.{Print, OpenEulerian}
-use Rattle.pm_cli.specs.declared.command.Image.TheVariants.{Canon}
+use Rattle.pm_cli.specs.declared.command.Image.TheVariants.{Canon, Medial, Unmedial, Dual}
 use Rattle.pm_cli.specs.declared.command.Reader.{Reader}
-use Rattle.pm_cli.specs.declared.command.Reader.TheVariants.{CloseEulerian, OfMap, Unsample, Sample}
-use Rattle.pm_cli.specs.declared.refusal.Refusal.{Refusal}
-use Rattle.pm_cli.specs.Answer.{Answers, AnswersReader}
-use Rattle.pm_io.specs.declared.TheConstants.{MAX_BYTES}
+use Rattle.pm_cli.specs.declared.command.Reader.TheVariants.{CloseEulerian, OfMap, Check, Unsample, Sample}
 use Rattle.pm_cli.specs.declared.command.Command.TheVariants.{Reads}
-use Rattle.pm_cli.specs.Classes.{IsSize, class_of}
+use Rattle.pm_cli.specs.declared.refusal.Refusal.{Refusal}
+use Rattle.pm_cli.specs.Answer.{Answers}
+use Rattle.pm_cli.specs.Classes.{AtSize, sized, IsSize, class_of}
 use Rattle.pm_cli.specs.Commands.{spelling}
+use Rattle.pm_cli.specs.MapAnswers.{HasMap, counts_line}
+use Rattle.pm_cli.specs.Sampling.{HasChoices}
 
 -- words and bytes have one answer and no other
 abbrev pub HasOneAnswer : Type 0
 HasOneAnswer = (words : List (List ℕ)) (bytes : List ℕ) (one other : Result (List ℕ) Refusal) → Answers words bytes one → Answers words bytes other → one ≡ other
 
+-- what a command answers to a file, by its words and the limit of bytes
+abbrev pub AnswersByWords : Reader → List ℕ → Result (List ℕ) Refusal → Type 0
+AnswersByWords reader bytes answer = Answers (spelling (Reads reader)) bytes answer
+
+-- The laws below are of what commands answer to files. Each holds of the files alone (`AnswersReader`), and by the words
+-- of the commands and the limit of bytes as well (`AnswersByWords`), which no text that is given back exceeds.
+
 -- what `close eulerian` answers to a tree file, `open eulerian` answers by that file
-abbrev pub ClosedTreesOpen : Type 0
-ClosedTreesOpen = (bytes text : List ℕ) → AnswersReader CloseEulerian bytes (Ok text) → AnswersReader (OfMap OpenEulerian) text (Ok bytes)
+abbrev pub ClosedTreesOpen : (Reader → List ℕ → Result (List ℕ) Refusal → Type 0) → Type 0
+ClosedTreesOpen answers = (bytes text : List ℕ) → answers CloseEulerian bytes (Ok text) → answers (OfMap OpenEulerian) text (Ok bytes)
 
 -- and what `open eulerian` answers to a map file, `close eulerian` answers as `canon` answers that file
-abbrev pub OpenedMapsClose : Type 0
-OpenedMapsClose =
-    (bytes text canonical : List ℕ) → AnswersReader (OfMap OpenEulerian) bytes (Ok text) → AnswersReader (OfMap (Print Canon)) bytes (Ok canonical)
-    → AnswersReader CloseEulerian text (Ok canonical)
+abbrev pub OpenedMapsClose : (Reader → List ℕ → Result (List ℕ) Refusal → Type 0) → Type 0
+OpenedMapsClose answers =
+    (bytes text canonical : List ℕ) → answers (OfMap OpenEulerian) bytes (Ok text) → answers (OfMap (Print Canon)) bytes (Ok canonical)
+    → answers CloseEulerian text (Ok canonical)
 
--- for a size of the class, what is sampled of a file of choices is the text of a map and the residue line of a map file
-pub record IsSampledAgain (class : Class) (map_file map_text choices_file : List ℕ) : Type 0 where
+-- the command answers by the text of a map
+abbrev pub PrintsMap : Reader → Type 0
+PrintsMap CloseEulerian = ⊤
+PrintsMap (OfMap (Print image)) = ⊤
+PrintsMap (OfMap OpenEulerian) = ⊥
+PrintsMap (Check class) = ⊥
+PrintsMap (Unsample class) = ⊥
+PrintsMap (Sample size) = ⊥
+
+-- what such a command answers, `canon` answers by that very text
+abbrev pub PrintedMapsStay : (Reader → List ℕ → Result (List ℕ) Refusal → Type 0) → Type 0
+PrintedMapsStay answers = (reader : Reader) (bytes text : List ℕ) → PrintsMap reader → answers reader bytes (Ok text) → answers (OfMap (Print Canon)) text (Ok text)
+
+-- what the one command answers to a map file, the other answers as `canon` answers that file
+abbrev pub ImagesReturn : (Reader → List ℕ → Result (List ℕ) Refusal → Type 0) → Reader → Reader → Type 0
+ImagesReturn answers there back =
+    (bytes text canonical : List ℕ) → answers there bytes (Ok text) → answers (OfMap (Print Canon)) bytes (Ok canonical) → answers back text (Ok canonical)
+
+-- so it is of `dual` and `dual`, of `medial` and `unmedial`, and of `unmedial` and `medial`
+abbrev pub DualsReturn : (Reader → List ℕ → Result (List ℕ) Refusal → Type 0) → Type 0
+DualsReturn answers = ImagesReturn answers (OfMap (Print Dual)) (OfMap (Print Dual))
+
+abbrev pub MedialsReturn : (Reader → List ℕ → Result (List ℕ) Refusal → Type 0) → Type 0
+MedialsReturn answers = ImagesReturn answers (OfMap (Print Medial)) (OfMap (Print Unmedial))
+
+abbrev pub UnmedialsReturn : (Reader → List ℕ → Result (List ℕ) Refusal → Type 0) → Type 0
+UnmedialsReturn answers = ImagesReturn answers (OfMap (Print Unmedial)) (OfMap (Print Medial))
+
+-- what `sample` answers to a choices file, `unsample` for the class answers by that file
+abbrev pub SampledListsReturn : (Reader → List ℕ → Result (List ℕ) Refusal → Type 0) → Type 0
+SampledListsReturn answers =
+    (size : Size) (bytes text : List ℕ) → IsSize size → answers (Sample size) bytes (Ok text) → answers (Unsample (class_of size)) text (Ok bytes)
+
+-- the choices give a map and a residue, and the answer is the line of how many vertices, edges and faces that map has
+pub record IsCounted (samples : RotationSystem → List ℕ → Type 0) (answer : List ℕ → Type 0) : Type 0 where
+  pub map : RotationSystem
+  pub residue : List ℕ
+  pub sampled : samples map residue
+  pub counted : answer (counts_line map)
+
+-- what `sample` answers to a choices file, `check` for the class answers by the numbers of the map that the choices give
+abbrev pub SampledMapsAreCounted : (Reader → List ℕ → Result (List ℕ) Refusal → Type 0) → Type 0
+SampledMapsAreCounted answers =
+    (size : Size) (bytes text : List ℕ) → IsSize size → answers (Sample size) bytes (Ok text)
+    → HasChoices bytes (λ choices. let at : AtSize = sized size in IsCounted (at.samples choices) (λ line. answers (Check (class_of size)) text (Ok line)))
+
+-- For the size of the map in the map file, which is of the class, what is sampled of a file of choices is the text of a map
+-- and the residue line of the map file.
+pub record IsSampledAgain (answers : Reader → List ℕ → Result (List ℕ) Refusal → Type 0) (class : Class) (map_file map_text choices_file : List ℕ) : Type 0 where
   pub size : Size
   pub is_of : class_of size ≡ class
   pub admissible : IsSize size
+  pub of_map : HasMap map_file MAX_EDGES (let at : AtSize = sized size in at.has)
   pub front : List ℕ
   pub line : List ℕ
   pub is_line : IsResidueLine line
   pub ends_so : map_file ≡ front ++ line
-  pub sampled : AnswersReader (Sample size) choices_file (Ok (map_text ++ line))
+  pub sampled : answers (Sample size) choices_file (Ok (map_text ++ line))
 
 -- what is unsampled of a map file, is sampled as the text that `canon` answers to that file, and its residue line
-abbrev pub UnsampledPairsReturn : Type 0
-UnsampledPairsReturn =
-    (class : Class) (bytes text canonical : List ℕ) → AnswersReader (Unsample class) bytes (Ok text) → AnswersReader (OfMap (Print Canon)) bytes (Ok canonical)
-    → IsSampledAgain class bytes canonical text
-
--- what a command answers to a file, by its words
-abbrev pub AnswersByWords : Reader → List ℕ → Result (List ℕ) Refusal → Type 0
-AnswersByWords reader bytes answer = Answers (spelling (Reads reader)) bytes answer
-
--- the same laws by words, where the file that is given back is within the limit of bytes
-abbrev pub ClosedTreesOpenByWords : Type 0
-ClosedTreesOpenByWords =
-    (bytes text : List ℕ) → length text ≤ MAX_BYTES → AnswersByWords CloseEulerian bytes (Ok text) → AnswersByWords (OfMap OpenEulerian) text (Ok bytes)
-
-abbrev pub OpenedMapsCloseByWords : Type 0
-OpenedMapsCloseByWords =
-    (bytes text canonical : List ℕ) → length text ≤ MAX_BYTES → AnswersByWords (OfMap OpenEulerian) bytes (Ok text) → AnswersByWords (OfMap (Print Canon)) bytes (Ok canonical)
-    → AnswersByWords CloseEulerian text (Ok canonical)
-
-pub record IsSampledByWords (class : Class) (map_file map_text choices_file : List ℕ) : Type 0 where
-  pub again : IsSampledAgain class map_file map_text choices_file
-  pub sampled : AnswersByWords (Sample again.size) choices_file (Ok (map_text ++ again.line))
-
-abbrev pub UnsampledPairsReturnByWords : Type 0
-UnsampledPairsReturnByWords =
-    (class : Class) (bytes text canonical : List ℕ) → length text ≤ MAX_BYTES → AnswersByWords (Unsample class) bytes (Ok text) → AnswersByWords (OfMap (Print Canon)) bytes (Ok canonical)
-    → IsSampledByWords class bytes canonical text
+abbrev pub UnsampledPairsReturn : (Reader → List ℕ → Result (List ℕ) Refusal → Type 0) → Type 0
+UnsampledPairsReturn answers =
+    (class : Class) (bytes text canonical : List ℕ) → answers (Unsample class) bytes (Ok text) → answers (OfMap (Print Canon)) bytes (Ok canonical)
+    → IsSampledAgain answers class bytes canonical text

@@ -28,7 +28,8 @@ pub use class::{Class, Size};
 pub use command::{Command, Image, Maker, MapTask, Reader};
 pub use engine::run;
 pub use laws::{
-    opening_undoes_closing, sampling_undoes_unsampling, words_and_bytes_have_one_answer,
+    images_return, opening_undoes_closing, printed_maps_stay, sampled_maps_are_counted,
+    sampling_undoes_unsampling, unsampling_undoes_sampling, words_and_bytes_have_one_answer,
 };
 pub use refusal::{Limit, MapRule, Refusal, Stop, TreeRule};
 pub use words::{MAX_RECORDS, Verb};
