@@ -9,12 +9,16 @@ use Rattle.std.proofs.lemmas.Bool.{cases_lt, cases_eq, cases_Bool, false≢true}
 use Rattle.pm_perm.proofs.Contained.{contains_none}
 use Rattle.pm_perm.specs.Permutation.{IsPermutationBelow}
 use Rattle.pm_perm.proofs.InverseLemmas.{place_of, place_of-of_value}
-use Rattle.pm_map.specs.Structure.{Structure, IsStructure, IsConnected}
-use Rattle.pm_map.specs.Rotation.{structure_of, twin}
+use Rattle.pm_map.specs.Structure.{Structure, IsStructure, IsConnected, Same}
+use Rattle.pm_map.specs.Rotation.{RotationSystem, structure_of, twin}
+use Rattle.pm_map.proofs.CarriedStructure.{rooted_carried}
+use Rattle.pm_map.proofs.SameMaps.{same_transitive}
+use Rattle.pm_map.proofs.StructureRotations.{each_structure_is_a_rotation}
+use Rattle.pm_map.proofs.TwinLemmas.{even_darts}
 use Rattle.pm_canon.specs.MeetingOrder.{HasEachOnce, IsMeetingOrder}
 use Rattle.pm_canon.specs.steps.Kept.{IsKept, AppendsVertex, IsMeeting}
 use Rattle.pm_canon.specs.steps.Naming.{IsNaming, IsRenamed}
-use Rattle.pm_canon.specs.Laws.{EachMapHasCanonical, EachMapHasMeetingList}
+use Rattle.pm_canon.specs.Laws.{EachMapHasCanonical, EachStructureHasCanonical, EachMapHasMeetingList}
 use Rattle.pm_canon.proofs.KeptLemmas.{HasEachOnce-length, HasEachOnce-fresh}
 use Rattle.pm_canon.proofs.WalkLemmas.{IsWalking, IsWalking-begins, IsWalking-step, IsWalking-below, IsWalking-once, IsWalking-kept, IsWalking-appended}
 use Rattle.pm_canon.proofs.MeetingLemmas.{MarksDarts-none, IsKept-none, IsMeeting-root, IsMeeting-stands, IsMeeting-onward, IsMeeting-all, IsMeetingOrder-none}
@@ -191,3 +195,13 @@ canonical_map_exists map valid =
       record { sigma = sigma; root = 0 },
       renamed_is_canonical map met.0 n.names sigma numbered (renamed_rotation-renamed n.names map.sigma (names_permute map met.0 n.names numbered)),
     )
+
+-- a plane structure is the same as a rooted map, and so has its canonical map
+pub canonical_form_exists : EachStructureHasCanonical
+canonical_form_exists s small =
+    let numbered = each_structure_is_a_rotation s small.plane.structure in
+    let map : RotationSystem = numbered.0 in
+    let same : Same s (structure_of map) = numbered.2 in
+    let even : s.darts % 2 ≡ 0 = subst (λ n. n % 2 ≡ 0) (sym same.1.darts) (even_darts map numbered.1) in
+    let found = canonical_map_exists map (rooted_carried same.0 s map small.plane even small.few same.1 numbered.1.no_root) in
+    (found.0, record { is_canonical = found.1.is_canonical; is_same = same_transitive s (structure_of map) (structure_of found.0) same found.1.is_same })

@@ -8,7 +8,6 @@ use Rattle.pm_map.specs.declared.admitted.Degrees.TheVariants.{Exactly, EvenUpTo
 use Rattle.pm_map.specs.Structure.{Structure}
 use Rattle.pm_map.specs.Rotation.{RotationSystem, structure_of}
 use Rattle.pm_map.specs.CycleSize.{IsCycleSize}
-use Rattle.pm_map.specs.Simple.{IsLoop, IsDouble}
 use Rattle.pm_map.specs.Classes.{IsQuartic}
 
 -- the degree is one of these

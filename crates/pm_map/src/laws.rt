@@ -5,7 +5,7 @@ ghost use Rattle.pm_map.specs.DistanceLaws.{DistanceIsSymmetric, DistancesAreCar
 ghost use Rattle.pm_map.specs.Classes.{IsBipartite, IsEulerian, IsGeneral, IsQuartic, IsTriangulation};
 ghost use Rattle.pm_map.specs.DualLaws.{DualExchangesCounts, DualIsRooted, DualIsStructure, DualTwiceIsSame, DualsTell, FaceDegreeCountsDarts};
 ghost use Rattle.pm_map.specs.Parts.{HasOneMapAnswer};
-ghost use Rattle.pm_map.specs.SameLaws.{IsKept, SameIsReflexive, SameIsSymmetric, SameIsTransitive};
+ghost use Rattle.pm_map.specs.SameLaws.{EachStructureIsARotation, IsKept, SameIsReflexive, SameIsSymmetric, SameIsTransitive};
 
 /// What canonical maps are for, as a law to call upon; nothing is computed. The canonical map of a rooted map is a rooted
 /// map, a rooted map has no two canonical maps, and two rooted maps are the same, up to a renumbering of their darts,
@@ -52,11 +52,13 @@ pub fn face_levels_are_distances()
     ensures carried { DistancesAreCarried }
 {}
 
-/// To be the same, up to a renumbering of the darts, is an equivalence of structures; nothing is computed.
+/// To be the same, up to a renumbering of the darts, is an equivalence of structures, and each structure is the same as
+/// that of a rotation and a root; nothing is computed.
 pub fn same_is_equivalence()
     ensures reflexive { SameIsReflexive }
     ensures symmetric { SameIsSymmetric }
     ensures transitive { SameIsTransitive }
+    ensures numbered { EachStructureIsARotation }
 {}
 
 /// Structures that are the same are in the same classes, with the same sizes; nothing is computed.
