@@ -15,6 +15,16 @@ growth_positive : (grown n : ℕ) → All (λ bound. 1 ≤ bound) (growth_bounds
 growth_positive grown zero = All-nil (λ (bound : ℕ). 1 ≤ bound)
 growth_positive grown (suc n) = All-cons (λ (bound : ℕ). 1 ≤ bound) (2 * (2 * grown + 1)) (growth_bounds (suc grown) n) (omega arith) (growth_positive (suc grown) n)
 
+growth_low : (most grown n : ℕ) → 4 * (grown + n) ≤ most → All (λ bound. bound ≤ most) (growth_bounds grown n)
+growth_low most grown zero few = All-nil (λ (bound : ℕ). bound ≤ most)
+growth_low most grown (suc n) few = All-cons (λ (bound : ℕ). bound ≤ most) (2 * (2 * grown + 1)) (growth_bounds (suc grown) n) (omega arith) (growth_low most (suc grown) n (omega arith))
+
+pub quartic_choices_low : (most n : ℕ) → 3 ≤ most → 4 * n ≤ most → All (λ bound. bound ≤ most) (quartic_choices n)
+quartic_choices_low most n some few =
+    All-append (λ (bound : ℕ). bound ≤ most) (growth_bounds 0 n ++ replicate n 3) (2 ∷ [])
+    (All-append (λ (bound : ℕ). bound ≤ most) (growth_bounds 0 n) (replicate n 3) (growth_low most 0 n (omega (arith, few))) (All-replicate (λ (bound : ℕ). bound ≤ most) n 3 some))
+    (All-cons (λ (bound : ℕ). bound ≤ most) 2 [] (omega arith) (All-nil (λ (bound : ℕ). bound ≤ most)))
+
 pub quartic_choices_are : (n : ℕ) → AreBounds (quartic_choices n)
 quartic_choices_are n = record {
   each = All-append (λ (bound : ℕ). 1 ≤ bound) (growth_bounds 0 n ++ replicate n 3) (2 ∷ [])

@@ -1,5 +1,5 @@
 -- The laws of quartic maps as a class.
-use Rattle.std.proofs.Common.{ℕ, ◌+◌, ◌*◌, ◌/◌, ◌≤◌, arith}
+use Rattle.std.proofs.Common.{ℕ, ◌+◌, ◌*◌, ◌/◌, ◌^◌, ◌≤◌, arith}
 use Rattle.std.proofs.lemmas.List.Elements.{All-cons}
 use Rattle.pm_limits.specs.declared.TheConstants.{MAX_EDGES}
 use Rattle.pm_map.specs.Rotation.{structure_of}
@@ -12,7 +12,7 @@ use Rattle.pm_objects.specs.Codes.{code_bounds}
 use Rattle.pm_euler.specs.Bounds.{quartic_choices, quartic_residues}
 use Rattle.pm_euler.specs.Quartic.{IsQuarticSize, SamplesQuartic}
 use Rattle.pm_objects.proofs.CodeBounds.{length-code_bounds, code_bounds_low}
-use Rattle.pm_euler.proofs.BoundLemmas.{quartic_choices_are, quartic_residues_are, length-quartic_choices}
+use Rattle.pm_euler.proofs.BoundLemmas.{quartic_choices_are, quartic_choices_low, quartic_residues_are, length-quartic_choices}
 use Rattle.pm_euler.proofs.OneSample.{one_quartic_sample}
 use Rattle.pm_euler.proofs.QuarticLists.{quartic_darts, each_quartic_pair, one_quartic_list}
 use Rattle.pm_euler.proofs.QuarticSamples.{each_quartic_list_is_sampled}
@@ -33,6 +33,7 @@ quartic_limits n size =
     record {
       choice_bounds = quartic_choices_are n;
       few_choices = omega (arith, few, choices);
+      low_choices = quartic_choices_low (2 ^ 64) n (omega arith) (omega (arith, few));
       residue_bounds = quartic_residues_are n;
       few_residues = omega (arith, few, code);
       low_residues = All-cons (λ (bound : ℕ). bound ≤ 2 * MAX_EDGES) (n + 2) (code_bounds (n + 1)) (omega (arith, few)) (code_bounds_low (2 * MAX_EDGES) (n + 1) (omega (arith, few)));

@@ -1,5 +1,5 @@
 -- The map without darts: the one map without edges, with its two lists.
-use Rattle.std.proofs.Common.{◌≡◌, ℕ, zero, suc, ◌*◌, ◌<◌, ◌≤◌, List, [], ◌∷◌, length, slice_index, refl, sym, ◌∙◌, ap, subst, arith}
+use Rattle.std.proofs.Common.{◌≡◌, ℕ, zero, suc, ◌*◌, ◌^◌, ◌<◌, ◌≤◌, List, [], ◌∷◌, length, slice_index, refl, sym, ◌∙◌, ap, subst, arith}
 use Rattle.std.specs.Prelude.{All}
 use Rattle.std.proofs.lemmas.List.Elements.{All-cons, All-nil}
 use Rattle.pm_limits.specs.declared.TheConstants.{MAX_EDGES}
@@ -136,6 +136,7 @@ pub nothing_limits : AreLimits (2 ∷ []) (2 ∷ 1 ∷ [])
 nothing_limits = record {
   choice_bounds = record { each = All-cons (λ (bound : ℕ). 1 ≤ bound) 2 [] (omega arith) (All-nil (λ (bound : ℕ). 1 ≤ bound)) };
   few_choices = omega arith;
+  low_choices = All-cons (λ (bound : ℕ). bound ≤ 2 ^ 64) 2 [] (omega arith) (All-nil (λ (bound : ℕ). bound ≤ 2 ^ 64));
   residue_bounds = record { each = bounds_of_nothing (λ (bound : ℕ). 1 ≤ bound) (omega arith) (omega arith) };
   few_residues = omega arith;
   low_residues = bounds_of_nothing (λ (bound : ℕ). bound ≤ 2 * MAX_EDGES) (omega arith) (omega arith);
