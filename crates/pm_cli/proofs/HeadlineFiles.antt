@@ -1,16 +1,16 @@
 -- The files of the headline: what `sample` and `unsample` answer to those of a valid list and of a pair of the class, and that
 -- what has an answer is such a file.
-use Rattle.std.proofs.Common.{◌≡◌, ℕ, ◌≤◌, List, ◌++◌, ◌∷◌, [], length, refl, ap, subst, arith}
+use Rattle.std.proofs.Common.{◌≡◌, ℕ, ◌^◌, ◌≤◌, List, ◌++◌, ◌∷◌, [], length, refl, ap, subst, arith}
 use Rattle.std.specs.Prelude.{codes, Some, Result, Ok, Err, ⊤}
 use Rattle.pm_limits.specs.declared.TheConstants.{MAX_EDGES}
 use Rattle.pm_io.specs.declared.TheConstants.{MAX_BYTES}
 use Rattle.pm_text.specs.Broken.{newline}
-use Rattle.pm_lists.specs.ListLine.{list_line}
+use Rattle.pm_lists.specs.ListLine.{AreWords, list_line}
 use Rattle.pm_lists.specs.Valid.{IsValidList}
 use Rattle.pm_map.specs.Rotation.{RotationSystem, IsRootedMap}
 use Rattle.pm_mapfile.proofs.CanonicalTexts.{canonical_has_text}
 use Rattle.pm_mapfile.proofs.FileLimits.{within_limit}
-use Rattle.pm_mapfile.proofs.TextLengths.{sample_file_few, choices_file_few}
+use Rattle.pm_mapfile.proofs.TextLengths.{valid_below, sample_file_few, choices_file_few}
 use Rattle.pm_class.specs.declared.sample.UnsampleRefusal.{UnsampleRefusal}
 use Rattle.pm_class.specs.declared.sample.UnsampleRefusal.TheVariants as pair
 use Rattle.pm_class.specs.Unsampling.{IsUnsampling}
@@ -26,14 +26,17 @@ use Rattle.pm_cli.proofs.OneUnsampling.{not_both, one_pair, one_size, not_wrong}
 
 -- a class at one size
 module _ (at : AtSize) (laws : IsAtSize at) where
-  -- the file of a valid list isn't too long
+  -- a valid list has numbers of 64 bits
+  list_fits : (choices bytes : List ℕ) → IsListFile at choices bytes → AreWords choices
+  list_fits choices bytes file = let limits = laws.limits in record { each = valid_below choices at.choice_limits (2 ^ 64) file.valid limits.low_choices }
+
+  -- so its file isn't too long
   pub list_file_few : (choices bytes : List ℕ) → IsListFile at choices bytes → length bytes ≤ MAX_BYTES
   list_file_few choices bytes file =
       let limits = laws.limits in
       let few = limits.few_choices in
       let valid = file.valid in
-      let spelled = file.spelled in
-      omega (arith, ap length spelled.spelled, choices_file_few choices (omega (arith, few, valid.as_long)) spelled.fit)
+      omega (arith, ap length file.spelled, choices_file_few choices (omega (arith, few, valid.as_long)) (list_fits choices bytes file))
 
   -- nor is that of a pair
   pub pair_file_few : (map : RotationSystem) (residue bytes : List ℕ) → IsPairFile at map residue bytes → length bytes ≤ MAX_BYTES
@@ -60,7 +63,7 @@ module _ (at : AtSize) (laws : IsAtSize at) where
         text = text;
         sampled = sampled text (record {
           choices = choices;
-          spelled = file.spelled;
+          spelled = record { fit = list_fits choices bytes file; spelled = file.spelled };
           holds = record { map = given.map; residue = given.residue; sampled = given.given; is_text = record { map_text = map_text.0; is_map_text = map_text.1; whole = refl } };
         });
         is = record {
@@ -81,7 +84,8 @@ module _ (at : AtSize) (laws : IsAtSize at) where
       let one = laws.one_to_one in
       let given = x.holds in
       let of = one.only x.choices given.map given.residue given.sampled in
-      (x.choices, record { valid = of.valid; spelled = x.spelled })
+      let line = x.spelled in
+      (x.choices, record { valid = of.valid; spelled = line.spelled })
   sampled_list bytes text _ (no_list line x) e = cc
   sampled_list bytes text _ (not_valid refusal x) e = cc
 
@@ -139,9 +143,10 @@ module _ (S : Sampler) (laws : IsSampler S) where
     giving text x =
         let is = x.unsampled in
         let same = one_size S laws map is.size size rooted is.in_class answered in
+        let line = x.is_text in
         record {
           choices = x.choices;
-          is_list = record { valid = subst (λ (s : S.Measure). IsValidList x.choices (S.choice_limits s)) same is.valid; spelled = x.is_text };
+          is_list = record { valid = subst (λ (s : S.Measure). IsValidList x.choices (S.choice_limits s)) same is.valid; spelled = line.spelled };
           canonical = is.canonical;
           is_canonical = is.is_canonical;
           given = subst (λ (s : S.Measure). S.samples s x.choices is.canonical residue) same is.given;

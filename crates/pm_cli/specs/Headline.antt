@@ -1,10 +1,12 @@
 -- The headline: for every class and admissible size `sample` carries the valid lists of choices one to one onto the pairs of
 -- a rooted map of that class and size and a valid residue, `unsample` carries each pair back, and every other file is
 -- refused by the first rule that it breaks.
-use Rattle.std.specs.Prelude.{◌≡◌, ◌≢◌, ℕ, List, Option, Some, Result, Ok, Err}
+use Rattle.std.specs.Prelude.{◌≡◌, ◌≢◌, ℕ, List, [], ◌∷◌, ◌++◌, Option, Some, Result, Ok, Err, codes}
 use Rattle.pm_limits.specs.declared.TheConstants.{MAX_EDGES}
 use Rattle.pm_io.specs.Bytes.{added}
 use Rattle.pm_io.specs.Faults.{FaultsRose}
+use Rattle.pm_text.specs.Broken.{newline}
+use Rattle.pm_lists.specs.ListLine.{list_line}
 use Rattle.pm_lists.specs.Valid.{IsValidList}
 use Rattle.pm_map.specs.Canonical.{IsCanonical, IsCanonicalOf}
 use Rattle.pm_map.specs.Rotation.{RotationSystem, IsRootedMap}
@@ -20,7 +22,7 @@ use Rattle.pm_cli.specs.Answer.{Answers}
 use Rattle.pm_cli.specs.Classes.{AtSize, sized, IsSize, class_of}
 use Rattle.pm_cli.specs.Commands.{Spells}
 use Rattle.pm_cli.specs.Lines.{status_of_refusal, line, text_of_refusal}
-use Rattle.pm_cli.specs.Sampling.{IsChoicesLine, IsTextOfSample}
+use Rattle.pm_cli.specs.Sampling.{IsTextOfSample}
 
 -- a stream before and after a run: the bytes that it has left or holds, where it tells them, and its count of faults
 pub record Stream : Type 0 where
@@ -48,10 +50,10 @@ pub record IsQuiet (run : Run) (bytes : List ℕ) : Type 0 where
   pub written : HadNoFault run.output
   pub no_want : run.status ≢ 9
 
--- the bytes spell a list of choices that is valid for the size
+-- the bytes spell a list of choices that is valid for the size: they are one line, `choices` and its numbers
 pub record IsListFile (at : AtSize) (choices bytes : List ℕ) : Type 0 where
   pub valid : IsValidList choices at.choice_limits
-  pub spelled : IsChoicesLine choices bytes
+  pub spelled : bytes ≡ list_line (codes "choices") choices ++ newline ∷ []
 
 -- the bytes are a map file of a map, whatever the names of its darts and in whatever order its vertices stand, and of a
 -- residue; the map is of the class and size, which is admissible, and the residue is valid for the size
