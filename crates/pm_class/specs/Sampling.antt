@@ -39,6 +39,11 @@ HasOneAnswer {Size} answers =
     (map : RotationSystem) (first second : Result Size ClassRefusal) → IsRootedMap map → answers map first → answers map second
     → (first ≡ Err MemoryOfClass → ⊥) → (second ≡ Err MemoryOfClass → ⊥) → first ≡ second
 
+-- a law: no rooted map is without an answer other than want of memory
+abbrev pub HasSomeAnswer : {Size : Type 0} → (RotationSystem → Result Size ClassRefusal → Type 0) → Type 0
+HasSomeAnswer {Size} answers =
+    (map : RotationSystem) → IsRootedMap map → ((answer : Result Size ClassRefusal) → answers map answer → (answer ≡ Err MemoryOfClass → ⊥) → ⊥) → ⊥
+
 -- a law: choices give one map and one residue
 abbrev pub HasOneSample : (List ℕ → RotationSystem → List ℕ → Type 0) → Type 0
 HasOneSample samples =

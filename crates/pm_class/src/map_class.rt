@@ -5,7 +5,7 @@ ghost use Rattle.pm_map.specs.Rotation.{RotationSystem};
 ghost use Rattle.pm_map.specs.declared.class_refusal.ClassRefusal.{ClassRefusal};
 ghost use Rattle.pm_class.specs.ClassLaws.{IsKeptByRenumbering, AreLimits, HasMostEdges};
 ghost use Rattle.pm_class.specs.OneToOne.{AreOneToOne};
-ghost use Rattle.pm_class.specs.Sampling.{IsSampled, IsSampling, IsSizeWhereAnswered, HasOneAnswer};
+ghost use Rattle.pm_class.specs.Sampling.{IsSampled, IsSampling, IsSizeWhereAnswered, HasOneAnswer, HasSomeAnswer};
 ghost use Rattle.pm_class.specs.Unsampling.{IsUnsampled, IsUnsampling};
 
 use crate::sample::{Sample, SampleRefusal, UnsampleRefusal};
@@ -140,12 +140,13 @@ pub trait MapClass {
         ensures { IfOk result (λ choices. IsUnsampled choice_limits residue_limits samples answers map.now residue.now choices) };
 
     /// The laws of the class, to call upon; nothing is computed. A map is answered a size exactly where it is in the
-    /// class with that size, which is admissible then; it has one answer, but for want of memory. At each size the valid
-    /// lists of choices are one to one with the pairs of a canonical map and a valid residue, the names of darts don't
-    /// matter, and the bounds are neither too many nor too great.
+    /// class with that size, which is admissible then; want of memory aside, it has one answer and is not without one. At
+    /// each size the valid lists of choices are one to one with the pairs of a canonical map and a valid residue, the names
+    /// of darts don't matter, and the bounds are neither too many nor too great.
     fn is_one_to_one()
         ensures sized { IsSizeWhereAnswered is_size has answers }
         ensures one_answer { HasOneAnswer answers }
+        ensures some_answer { HasSomeAnswer answers }
         ensures one_to_one { (size : Self.Size) → is_size size → AreOneToOne (choice_limits size) (residue_limits size) (has size) (samples size) }
         ensures kept { (size : Self.Size) → is_size size → IsKeptByRenumbering (has size) }
         ensures limits { (size : Self.Size) → is_size size → AreLimits (choice_limits size) (residue_limits size) }

@@ -1,7 +1,8 @@
 -- The files of the headline: what `sample` and `unsample` answer to those of a valid list and of a pair of the class, and that
 -- what has an answer is such a file.
-use Rattle.std.proofs.Common.{◌≡◌, ℕ, ◌^◌, ◌≤◌, List, ◌++◌, ◌∷◌, [], length, refl, ap, subst, arith}
+use Rattle.std.proofs.Common.{◌≡◌, ℕ, ◌^◌, ◌<◌, ◌≤◌, List, ◌++◌, ◌∷◌, [], length, refl, ap, subst, arith}
 use Rattle.std.specs.Prelude.{codes, Some, Result, Ok, Err, ⊤}
+use Rattle.std.proofs.lemmas.List.Elements.{All-weaker}
 use Rattle.pm_limits.specs.declared.TheConstants.{MAX_EDGES}
 use Rattle.pm_io.specs.declared.TheConstants.{MAX_BYTES}
 use Rattle.pm_text.specs.Broken.{newline}
@@ -28,7 +29,7 @@ use Rattle.pm_cli.proofs.OneUnsampling.{not_both, one_pair, one_size, not_wrong}
 module _ (at : AtSize) (laws : IsAtSize at) where
   -- a valid list has numbers of 64 bits
   list_fits : (choices bytes : List ℕ) → IsListFile at choices bytes → AreWords choices
-  list_fits choices bytes file = let limits = laws.limits in record { each = valid_below choices at.choice_limits (2 ^ 64) file.valid limits.low_choices }
+  list_fits choices bytes file = let limits = laws.limits in record { each = valid_below choices at.choice_limits (2 ^ 64) file.valid (All-weaker (λ bound. bound < 2 ^ 64) (λ bound. bound ≤ 2 ^ 64) (λ bound fits. omega (arith, fits)) at.choice_limits limits.choices_fit.each) }
 
   -- so its file isn't too long
   pub list_file_few : (choices bytes : List ℕ) → IsListFile at choices bytes → length bytes ≤ MAX_BYTES

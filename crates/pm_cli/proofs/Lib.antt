@@ -20,6 +20,11 @@ pub mod Records
 pub mod Refusals
 pub mod SampleFiles
 pub mod SampledAgain
+pub mod SomeAnswer
+pub mod SomeClosing
+pub mod SomeMapAnswer
+pub mod SomeSampling
+pub mod SomeUnsampling
 pub mod Sizes
 pub mod StoppingWords
 pub mod TreeLines

@@ -71,7 +71,7 @@ unsampled_within laws c bytes text unsamples =
     let given = is.holds in
     omega (arith, ap length pair.is_text.spelled, choices_file_few pair.choices given.few pair.is_text.fit)
 
-most : (c : Class) → (let at : InClass = class_at c in at.most_edges) ≤ MAX_EDGES
+pub most : (c : Class) → (let at : InClass = class_at c in at.most_edges) ≤ MAX_EDGES
 most class.General = omega arith
 most class.Quartic = omega arith
 most class.Eulerian = omega arith

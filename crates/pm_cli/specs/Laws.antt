@@ -21,6 +21,14 @@ use Rattle.pm_cli.specs.Sampling.{HasChoices}
 abbrev pub HasOneAnswer : Type 0
 HasOneAnswer = (words : List (List ℕ)) (bytes : List ℕ) (one other : Result (List ℕ) Refusal) → Answers words bytes one → Answers words bytes other → one ≡ other
 
+-- one of these is the answer: that none of all answers is one, can't be
+abbrev pub IsAnswered : (Result (List ℕ) Refusal → Type 0) → Type 0
+IsAnswered answers = ((answer : Result (List ℕ) Refusal) → answers answer → ⊥) → ⊥
+
+-- no words and bytes are without an answer
+abbrev pub HasSomeAnswer : Type 0
+HasSomeAnswer = (words : List (List ℕ)) (bytes : List ℕ) → IsAnswered (Answers words bytes)
+
 -- what a command answers to a file, by its words and the limit of bytes
 abbrev pub AnswersByWords : Reader → List ℕ → Result (List ℕ) Refusal → Type 0
 AnswersByWords reader bytes answer = Answers (spelling (Reads reader)) bytes answer

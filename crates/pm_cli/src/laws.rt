@@ -1,7 +1,7 @@
 //! Laws of the answer.
 ghost use Rattle.pm_cli.specs.steps.ClassLaws.{IsSampler};
 ghost use Rattle.pm_cli.specs.Answer.{AnswersReader};
-ghost use Rattle.pm_cli.specs.Laws.{HasOneAnswer, AnswersByWords, ClosedTreesOpen, OpenedMapsClose, PrintedMapsStay, DualsReturn, MedialsReturn, UnmedialsReturn, SampledListsReturn, SampledMapsAreCounted, UnsampledPairsReturn};
+ghost use Rattle.pm_cli.specs.Laws.{HasOneAnswer, HasSomeAnswer, AnswersByWords, ClosedTreesOpen, OpenedMapsClose, PrintedMapsStay, DualsReturn, MedialsReturn, UnmedialsReturn, SampledListsReturn, SampledMapsAreCounted, UnsampledPairsReturn};
 
 use pm_class::MapClass;
 use pm_euler::{Eulerian, Quartic};
@@ -24,9 +24,10 @@ pub(crate) fn law<C: MapClass>()
 }
 
 /// A law: words and bytes have one answer and no other, so that each refusal comes exactly where its rule is the first
-/// that is broken.
+/// that is broken; and none are without one.
 pub fn words_and_bytes_have_one_answer()
-    ensures { HasOneAnswer }
+    ensures one { HasOneAnswer }
+    ensures some { HasSomeAnswer }
 {
     law::<General>();
     law::<Quartic>();

@@ -1,9 +1,10 @@
 -- Bounds are bounds, and what is below them.
-use Rattle.std.proofs.Common.{◌≡◌, ℕ, zero, suc, ◌+◌, ◌-◌, ◌*◌, ◌<◌, ◌≤◌, List, [], ◌∷◌, ◌++◌, length, length-append, length-take, length-drop, take, drop, replicate, refl, sym, ◌∙◌, ap, subst, arith}
+use Rattle.std.proofs.Common.{◌≡◌, ℕ, zero, suc, ◌+◌, ◌-◌, ◌*◌, ◌^◌, ◌<◌, ◌≤◌, List, [], ◌∷◌, ◌++◌, length, length-append, length-take, length-drop, take, drop, replicate, refl, sym, ◌∙◌, ap, subst, arith}
 use Rattle.std.specs.Prelude.{slice_index, slice_index_or, All}
 use Rattle.std.proofs.Math.ListN.{get_or-append}
 use Rattle.std.proofs.lemmas.List.{get_or_default, get_or-append_right, get_or-replicate, get_or-take, get_or-drop, length-replicate}
 use Rattle.std.proofs.lemmas.List.Elements.{All-append, All-replicate, All-nil, All-cons}
+use Rattle.pm_lists.specs.ListLine.{AreWords}
 use Rattle.pm_lists.specs.Valid.{AreBounds, IsValidList}
 use Rattle.pm_lehmer.specs.Lehmer.{IsArrangementCode}
 use Rattle.pm_remy.specs.Growth.{IsChoices}
@@ -15,21 +16,22 @@ growth_positive : (grown n : ℕ) → All (λ bound. 1 ≤ bound) (growth_bounds
 growth_positive grown zero = All-nil (λ (bound : ℕ). 1 ≤ bound)
 growth_positive grown (suc n) = All-cons (λ (bound : ℕ). 1 ≤ bound) (2 * (2 * grown + 1)) (growth_bounds (suc grown) n) (omega arith) (growth_positive (suc grown) n)
 
-growth_low : (most grown n : ℕ) → 4 * (grown + n) ≤ most → All (λ bound. bound ≤ most) (growth_bounds grown n)
-growth_low most grown zero few = All-nil (λ (bound : ℕ). bound ≤ most)
-growth_low most grown (suc n) few = All-cons (λ (bound : ℕ). bound ≤ most) (2 * (2 * grown + 1)) (growth_bounds (suc grown) n) (omega arith) (growth_low most (suc grown) n (omega arith))
-
-pub quartic_choices_low : (most n : ℕ) → 3 ≤ most → 4 * n ≤ most → All (λ bound. bound ≤ most) (quartic_choices n)
-quartic_choices_low most n some few =
-    All-append (λ (bound : ℕ). bound ≤ most) (growth_bounds 0 n ++ replicate n 3) (2 ∷ [])
-    (All-append (λ (bound : ℕ). bound ≤ most) (growth_bounds 0 n) (replicate n 3) (growth_low most 0 n (omega (arith, few))) (All-replicate (λ (bound : ℕ). bound ≤ most) n 3 some))
-    (All-cons (λ (bound : ℕ). bound ≤ most) 2 [] (omega arith) (All-nil (λ (bound : ℕ). bound ≤ most)))
-
 pub quartic_choices_are : (n : ℕ) → AreBounds (quartic_choices n)
 quartic_choices_are n = record {
   each = All-append (λ (bound : ℕ). 1 ≤ bound) (growth_bounds 0 n ++ replicate n 3) (2 ∷ [])
       (All-append (λ (bound : ℕ). 1 ≤ bound) (growth_bounds 0 n) (replicate n 3) (growth_positive 0 n) (All-replicate (λ (bound : ℕ). 1 ≤ bound) n 3 (omega arith)))
       (All-cons (λ (bound : ℕ). 1 ≤ bound) 2 [] (omega arith) (All-nil (λ (bound : ℕ). 1 ≤ bound)));
+}
+
+growth_fits : (grown n : ℕ) → grown + n ≤ 2 ^ 32 → All (λ bound. bound < 2 ^ 64) (growth_bounds grown n)
+growth_fits grown zero few = All-nil (λ (bound : ℕ). bound < 2 ^ 64)
+growth_fits grown (suc n) few = All-cons (λ (bound : ℕ). bound < 2 ^ 64) (2 * (2 * grown + 1)) (growth_bounds (suc grown) n) (omega (arith, few)) (growth_fits (suc grown) n (omega (arith, few)))
+
+pub quartic_choices_fit : (n : ℕ) → n ≤ 2 ^ 32 → AreWords (quartic_choices n)
+quartic_choices_fit n few = record {
+  each = All-append (λ (bound : ℕ). bound < 2 ^ 64) (growth_bounds 0 n ++ replicate n 3) (2 ∷ [])
+      (All-append (λ (bound : ℕ). bound < 2 ^ 64) (growth_bounds 0 n) (replicate n 3) (growth_fits 0 n (omega (arith, few))) (All-replicate (λ (bound : ℕ). bound < 2 ^ 64) n 3 (omega arith)))
+      (All-cons (λ (bound : ℕ). bound < 2 ^ 64) 2 [] (omega arith) (All-nil (λ (bound : ℕ). bound < 2 ^ 64)));
 }
 
 pub quartic_residues_are : (n : ℕ) → AreBounds (quartic_residues n)

@@ -1,10 +1,10 @@
 -- The bounds of the choices and the residues of Eulerian maps are bounds, and what is below them.
-use Rattle.std.proofs.Common.{◌≡◌, ℕ, zero, suc, ◌+◌, ◌-◌, ◌*◌, ◌/◌, ◌^◌, ◌<◌, ◌≤◌, List, [], ◌∷◌, ◌++◌, length, length-append, length-take, length-drop, take, replicate, append_assoc, drop, map, refl, sym, ◌∙◌, ap, subst, arith}
+use Rattle.std.proofs.Common.{◌≡◌, ℕ, zero, suc, ◌+◌, ◌-◌, ◌*◌, ◌/◌, ◌^◌, ◌<◌, ◌≤◌, pow_mono, List, [], ◌∷◌, ◌++◌, length, length-append, length-take, length-drop, take, replicate, append_assoc, drop, map, refl, sym, ◌∙◌, ap, subst, arith}
 use Rattle.std.specs.Prelude.{slice_index, All, flat_map}
 use Rattle.std.proofs.Math.ListN.{get_or-append}
-use Rattle.std.proofs.Math.Pow.{pow_mono}
 use Rattle.std.proofs.lemmas.List.{flat_map_more, take_more, map-append, get_or-append_right, get_or-take, get_or-drop, get_or-map, length-map}
 use Rattle.std.proofs.lemmas.List.Elements.{All-append, All-map, All-weaker, All-nil, All-cons}
+use Rattle.pm_lists.specs.ListLine.{AreWords}
 use Rattle.pm_lists.specs.Valid.{AreBounds, IsValidList}
 use Rattle.pm_lehmer.specs.Lehmer.{IsArrangementCode}
 use Rattle.pm_trees.specs.Binomial.{choose}
@@ -32,22 +32,24 @@ eulerian_choices_are pairs is = record {
       (All-cons (λ (bound : ℕ). 1 ≤ bound) 2 [] (omega arith) (All-nil (λ (bound : ℕ). 1 ≤ bound)));
 }
 
--- a node has fewer than 2 ^ 64 patterns
-patterns_low : (half : ℕ) → IsHalfDegree half → choose (2 * half - 1) half ≤ 2 ^ 64
-patterns_low half is =
-    let few = is.few in
-    let power = choose-le-power (2 * half - 1) half in
-    let more : 2 ^ (2 * half - 1) ≤ 2 ^ 64 = pow_mono {i = 2 * half - 1} {j = 64} (omega (arith, few)) in
-    omega (arith, power, more)
+-- at most 63 entries, so fewer than 2^63 patterns
+patterns_fit : (half : ℕ) → IsHalfDegree half → choose (2 * half - 1) half < 2 ^ 64
+patterns_fit half is =
+    let power : choose (2 * half - 1) half ≤ 2 ^ (2 * half - 1) = choose-le-power (2 * half - 1) half in
+    let within : 2 * half - 1 ≤ 63 = (let few = is.few in omega arith) in
+    let most : 2 ^ (2 * half - 1) ≤ 2 ^ 63 = pow_mono within in
+    omega (arith, power, most)
 
-pub eulerian_choices_low : (pairs : List (ℕ × ℕ)) → IsProfile pairs → All (λ bound. bound ≤ 2 ^ 64) (eulerian_choices pairs)
-eulerian_choices_low pairs is =
-    let few = is.few in
-    All-append (λ (bound : ℕ). bound ≤ 2 ^ 64) (code_bounds (suc (edges_of pairs)) ++ map (λ half. choose (2 * half - 1) half) (halves_of pairs)) (2 ∷ [])
-    (All-append (λ (bound : ℕ). bound ≤ 2 ^ 64) (code_bounds (suc (edges_of pairs))) (map (λ half. choose (2 * half - 1) half) (halves_of pairs)) (code_bounds_low (2 ^ 64) (suc (edges_of pairs)) (omega arith))
-    (All-map (λ (bound : ℕ). bound ≤ 2 ^ 64) (λ half. choose (2 * half - 1) half) (halves_of pairs)
-    (All-weaker IsHalfDegree (λ half. choose (2 * half - 1) half ≤ 2 ^ 64) patterns_low (halves_of pairs) (halves_are pairs is))))
-    (All-cons (λ (bound : ℕ). bound ≤ 2 ^ 64) 2 [] (omega arith) (All-nil (λ (bound : ℕ). bound ≤ 2 ^ 64)))
+pub eulerian_choices_fit : (pairs : List (ℕ × ℕ)) → IsProfile pairs → edges_of pairs ≤ 2 ^ 32 → AreWords (eulerian_choices pairs)
+eulerian_choices_fit pairs is few = record {
+  each =
+      All-append (λ (bound : ℕ). bound < 2 ^ 64) (code_bounds (suc (edges_of pairs)) ++ map (λ half. choose (2 * half - 1) half) (halves_of pairs)) (2 ∷ [])
+      (All-append (λ (bound : ℕ). bound < 2 ^ 64) (code_bounds (suc (edges_of pairs))) (map (λ half. choose (2 * half - 1) half) (halves_of pairs))
+      (All-weaker (λ (bound : ℕ). bound ≤ suc (edges_of pairs)) (λ (bound : ℕ). bound < 2 ^ 64) (λ bound low. omega (arith, low, few)) (code_bounds (suc (edges_of pairs))) (code_bounds_low (suc (edges_of pairs)) (suc (edges_of pairs)) (omega arith)))
+      (All-map (λ (bound : ℕ). bound < 2 ^ 64) (λ half. choose (2 * half - 1) half) (halves_of pairs)
+      (All-weaker IsHalfDegree (λ half. choose (2 * half - 1) half < 2 ^ 64) patterns_fit (halves_of pairs) (halves_are pairs is))))
+      (All-cons (λ (bound : ℕ). bound < 2 ^ 64) 2 [] (omega arith) (All-nil (λ (bound : ℕ). bound < 2 ^ 64)));
+}
 
 codes_positive : (ranges : List (ℕ × ℕ)) → All (λ bound. 1 ≤ bound) (flat_map (λ (r : ℕ × ℕ). code_bounds r.1) ranges)
 codes_positive [] = All-nil (λ (bound : ℕ). 1 ≤ bound)

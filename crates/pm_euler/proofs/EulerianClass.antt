@@ -21,7 +21,7 @@ use Rattle.pm_euler.specs.Eulerian.{SamplesEulerian}
 use Rattle.pm_objects.proofs.ObjectCounts.{nodes_by_ranges}
 use Rattle.pm_euler.specs.Objects.{leaves_of_profile, ranges_of}
 use Rattle.pm_objects.proofs.CodeBounds.{code_bounds_low, length-bounds_by_range}
-use Rattle.pm_euler.proofs.EulerianBounds.{eulerian_choices_are, eulerian_choices_low, eulerian_residues_are, length-eulerian_choices, residues_by_range}
+use Rattle.pm_euler.proofs.EulerianBounds.{eulerian_choices_are, eulerian_choices_fit, eulerian_residues_are, length-eulerian_choices, residues_by_range}
 use Rattle.pm_euler.proofs.EulerianLists.{one_eulerian_list}
 use Rattle.pm_euler.proofs.EulerianMaps.{counted_of_degrees}
 use Rattle.pm_euler.proofs.EulerianPairs.{each_eulerian_pair}
@@ -53,8 +53,8 @@ eulerian_limits pairs is =
     let codes : List ℕ = flat_map (λ (r : ℕ × ℕ). code_bounds r.1) (ranges_of pairs) in
     subst (AreLimits (eulerian_choices pairs)) (sym (residues_by_range pairs)) (record {
       choice_bounds = eulerian_choices_are pairs is;
+      choices_fit = eulerian_choices_fit pairs is (omega (arith, few));
       few_choices = omega (arith, few, nodes, choices);
-      low_choices = eulerian_choices_low pairs is;
       residue_bounds = subst AreBounds (residues_by_range pairs) (eulerian_residues_are pairs is);
       few_residues =
           let all = length-append (codes ++ code_bounds leaves) (suc leaves ∷ []) in

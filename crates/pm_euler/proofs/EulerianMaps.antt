@@ -1,8 +1,11 @@
 -- Maps with vertices of even degrees: their one profile, and what a map is answered that should be one.
-use Rattle.std.proofs.Common.{◌≡◌, ◌⊎◌, ℕ, suc, ◌%◌, ◌<◌, ◌≤◌, Ok, Err, inl, inr, List, length, slice_index, refl, sym, ◌∙◌, ap, subst, arith}
-use Rattle.std.proofs.lemmas.Bool.{cases_eq, cases_order}
+use Rattle.std.proofs.Common.{◌≡◌, ◌⊎◌, ℕ, suc, ◌%◌, ◌<◌, ◌≤◌, Ok, Err, inl, inr, List, map, length, slice_index, refl, sym, ◌∙◌, ap, subst, arith}
+use Rattle.std.proofs.lemmas.Bool.{cases_eq, cases_lt, cases_order}
+use Rattle.std.specs.List.{range_with_len}
 use Rattle.std.proofs.lemmas.List.{get_or_past}
+use Rattle.std.proofs.lemmas.List.FromFn.{get_or-map-range_with_len, length-map-range_with_len}
 use Rattle.pm_limits.specs.declared.TheConstants.{MAX_DEGREE}
+use Rattle.pm_perm.proofs.LeastCases.{all_or_least}
 use Rattle.pm_map.specs.Structure.{Structure, IsStructure}
 use Rattle.pm_map.specs.Rotation.{RotationSystem, structure_of, IsRootedMap}
 use Rattle.pm_map.specs.Classes.{IsEulerian, HasDegrees, degree_of, vertices_of_degree}
@@ -19,9 +22,10 @@ use Rattle.pm_trees.specs.Pairs.{IsProfile, BreaksPair, empty, wrong, pair_at}
 use Rattle.pm_trees.specs.Profile.{HasTooMany}
 use Rattle.pm_trees.specs.Degrees.{AreListed}
 use Rattle.pm_trees.proofs.CountedPairs.{AreCounted, sum_bounded, one_counted}
+use Rattle.pm_trees.proofs.Listing.{listing_exists}
 use Rattle.pm_objects.proofs.ObjectCounts.{find_range}
 use Rattle.pm_euler.specs.Eulerian.{IsEulerianAnswer}
-use Rattle.pm_class.specs.Sampling.{IsSizeWhereAnswered, HasOneAnswer}
+use Rattle.pm_class.specs.Sampling.{IsSizeWhereAnswered, HasOneAnswer, HasSomeAnswer}
 
 -- a list that has the vertices' degrees counts them
 pub counted_of_degrees : (s : Structure) (pairs : List (ℕ × ℕ)) → IsProfile pairs → HasDegrees s pairs → AreCounted (vertices_of_degree s) pairs
@@ -191,3 +195,25 @@ no_size_refusal m table edges rooted darts admitted t a =
     let many = a.2.many in
     let counted = a.2.counted in
     omega (arith, few, many, counted)
+
+-- the table of a map's degrees
+degree_table : (s : Structure) → (table : List ℕ) × AreVertexCounts s MAX_DEGREE table
+degree_table s = (
+  map (vertices_of_degree s) (range_with_len 0 (suc MAX_DEGREE)),
+  record {
+    as_long = length-map-range_with_len (vertices_of_degree s) 0 (suc MAX_DEGREE);
+    each = λ degree few. get_or-map-range_with_len (vertices_of_degree s) 0 (suc MAX_DEGREE) degree degree 0 (omega (arith, few)) (omega arith);
+  },
+)
+
+pub some_eulerian_answer : HasSomeAnswer IsEulerianAnswer
+some_eulerian_answer m rooted told = elim (cases_lt 0 (length m.sigma)) [
+  | inl some ↦
+      all_or_least (HasAdmittedDegree (structure_of m) (EvenUpTo MAX_DEGREE)) (length m.sigma)
+      (λ all.
+      let table = degree_table (structure_of m) in
+      let listed = listing_exists table.0 in
+      told (Ok listed.0) (profile_of_table m table.0 listed.0 rooted some all table.1 listed.1) (λ e. cc))
+      (λ dart other. told (Err (Vertex dart)) other (λ e. cc))
+  | inr none ↦ told (Err Empty) (omega (arith, none)) (λ e. cc)
+]

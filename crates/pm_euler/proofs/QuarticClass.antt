@@ -12,7 +12,7 @@ use Rattle.pm_objects.specs.Codes.{code_bounds}
 use Rattle.pm_euler.specs.Bounds.{quartic_choices, quartic_residues}
 use Rattle.pm_euler.specs.Quartic.{IsQuarticSize, SamplesQuartic}
 use Rattle.pm_objects.proofs.CodeBounds.{length-code_bounds, code_bounds_low}
-use Rattle.pm_euler.proofs.BoundLemmas.{quartic_choices_are, quartic_choices_low, quartic_residues_are, length-quartic_choices}
+use Rattle.pm_euler.proofs.BoundLemmas.{quartic_choices_are, quartic_choices_fit, quartic_residues_are, length-quartic_choices}
 use Rattle.pm_euler.proofs.OneSample.{one_quartic_sample}
 use Rattle.pm_euler.proofs.QuarticLists.{quartic_darts, each_quartic_pair, one_quartic_list}
 use Rattle.pm_euler.proofs.QuarticSamples.{each_quartic_list_is_sampled}
@@ -32,8 +32,8 @@ quartic_limits n size =
     let code = length-code_bounds (n + 1) in
     record {
       choice_bounds = quartic_choices_are n;
+      choices_fit = quartic_choices_fit n (omega (arith, few));
       few_choices = omega (arith, few, choices);
-      low_choices = quartic_choices_low (2 ^ 64) n (omega arith) (omega (arith, few));
       residue_bounds = quartic_residues_are n;
       few_residues = omega (arith, few, code);
       low_residues = All-cons (λ (bound : ℕ). bound ≤ 2 * MAX_EDGES) (n + 2) (code_bounds (n + 1)) (omega (arith, few)) (code_bounds_low (2 * MAX_EDGES) (n + 1) (omega (arith, few)));

@@ -1,18 +1,19 @@
 -- Quartic maps: their size, and what a map is answered that should be one.
-use Rattle.std.proofs.Common.{◌≡◌, ℕ, ◌*◌, ◌/◌, ◌<◌, ◌≤◌, Ok, Err, false, eqb, length, refl, sym, ◌∙◌, ap, subst, arith}
+use Rattle.std.proofs.Common.{◌≡◌, ℕ, ◌*◌, ◌/◌, ◌<◌, ◌≤◌, Ok, Err, inl, inr, false, eqb, length, refl, sym, ◌∙◌, ap, subst, arith}
 use Rattle.std.specs.Prelude.{slice_index}
-use Rattle.std.proofs.lemmas.Bool.{ne_eqb}
+use Rattle.std.proofs.lemmas.Bool.{cases_lt, ne_eqb}
 use Rattle.pm_limits.specs.declared.TheConstants.{MAX_EDGES}
+use Rattle.pm_perm.proofs.LeastCases.{all_or_least}
 use Rattle.pm_map.specs.Structure.{Structure, IsStructure}
 use Rattle.pm_map.specs.Plane.{vertices}
 use Rattle.pm_map.specs.Rotation.{RotationSystem, structure_of, IsRootedMap}
 use Rattle.pm_map.specs.CycleSize.{IsCycleSize}
 use Rattle.pm_map.specs.Classes.{IsQuartic}
-use Rattle.pm_map.specs.ClassRules.{IsQuarticAnswer, AllAdmitted, IsLeastOther}
+use Rattle.pm_map.specs.ClassRules.{IsQuarticAnswer, HasAdmittedDegree, AllAdmitted, IsLeastOther}
 use Rattle.pm_map.specs.declared.admitted.Degrees.TheVariants.{Exactly}
 use Rattle.pm_map.specs.declared.class_refusal.ClassRefusal.TheVariants.{Memory, Empty, TooMany, Vertex, Face, Loop, Double}
 use Rattle.pm_euler.specs.Quartic.{IsQuarticSize}
-use Rattle.pm_class.specs.Sampling.{IsSizeWhereAnswered, HasOneAnswer}
+use Rattle.pm_class.specs.Sampling.{IsSizeWhereAnswered, HasOneAnswer, HasSomeAnswer}
 use Rattle.pm_map.proofs.DegreeRules.{least_other_is_unique}
 use Rattle.pm_map.proofs.DegreeTotals.{darts_of_degree}
 
@@ -73,3 +74,13 @@ one_quartic_answer m first (Err (TooMany k)) rooted x y _ _ = absurd y
 one_quartic_answer m first (Err (Face k)) rooted x y _ _ = absurd y
 one_quartic_answer m first (Err (Loop k)) rooted x y _ _ = absurd y
 one_quartic_answer m first (Err (Double k)) rooted x y _ _ = absurd y
+
+pub some_quartic_answer : HasSomeAnswer IsQuarticAnswer
+some_quartic_answer m rooted told = elim (cases_lt 0 (length m.sigma)) [
+  | inl some ↦
+      let even = rooted.even in
+      all_or_least (HasAdmittedDegree (structure_of m) (Exactly 4)) (length m.sigma)
+      (λ all. told (Ok (length m.sigma / 2 / 2)) (quartic_of_degrees m (length m.sigma / 2) rooted (omega (arith, even)) (λ none. omega (arith, even, none, some)) all) (λ e. cc))
+      (λ dart other. told (Err (Vertex dart)) other (λ e. cc))
+  | inr none ↦ told (Err Empty) (omega (arith, none)) (λ e. cc)
+]

@@ -17,7 +17,7 @@ use Rattle.pm_map.proofs.DualMaps.{dual_is_plane, dual_is_rooted, duals_tell}
 use Rattle.pm_trees.specs.Pairs.{IsProfile}
 use Rattle.pm_class.specs.Behind.{IsSameAsImage, ImagesTell, AreExchanged}
 use Rattle.pm_class.specs.ClassLaws.{IsKeptByRenumbering, HasMostEdges}
-use Rattle.pm_class.specs.Sampling.{IsSizeWhereAnswered, HasOneAnswer}
+use Rattle.pm_class.specs.Sampling.{IsSizeWhereAnswered, HasOneAnswer, HasSomeAnswer}
 use Rattle.pm_euler.specs.Eulerian.{IsEulerianAnswer}
 use Rattle.pm_general.specs.Bipartite.{IsDualStructure, IsBipartiteAnswer}
 use Rattle.pm_general.proofs.DualsOfMaps.{dual_map, dual_map_is, map_to_dual, dual_to_map, dual_back}
@@ -148,3 +148,20 @@ bipartite_most_edges most = record {
       let of : IsDualOf m (dual_map m) = dual_map_is m in
       sym of.as_long ∙ most.reached (dual_map m) (dual_is_rooted m (dual_map m) rooted of) (dual_is_eulerian most.greatest m (dual_map m) rooted of is);
 }
+
+-- the answer to the dual of a map is one to the map
+answer_from_dual : (m other : RotationSystem) → IsRootedMap m → IsDualOf m other → (answer : Result (List (ℕ × ℕ)) ClassRefusal) → IsEulerianAnswer other answer → IsBipartiteAnswer m (faced answer)
+answer_from_dual m other rooted of (Ok pairs) is = (is.0, dual_is_bipartite pairs m other rooted of is.1)
+answer_from_dual m other rooted of (Err (Vertex dart)) is = face_of_dual m other rooted of dart is
+answer_from_dual m other rooted of (Err Empty) is = sym of.as_long ∙ is
+answer_from_dual m other rooted of (Err Memory) is = is
+answer_from_dual m other rooted of (Err (Face dart)) is = is
+answer_from_dual m other rooted of (Err (TooMany edges)) is = is
+answer_from_dual m other rooted of (Err (Loop dart)) is = is
+answer_from_dual m other rooted of (Err (Double dart)) is = is
+
+pub some_bipartite_answer : HasSomeAnswer IsEulerianAnswer → HasSomeAnswer IsBipartiteAnswer
+some_bipartite_answer some m rooted told =
+    let of : IsDualOf m (dual_map m) = dual_map_is m in
+    some (dual_map m) (dual_is_rooted m (dual_map m) rooted of)
+    (λ answer is memory. told (faced answer) (answer_from_dual m (dual_map m) rooted of answer is) (λ e. memory (from_memory answer e)))

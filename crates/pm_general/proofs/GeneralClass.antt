@@ -1,9 +1,11 @@
 -- The laws of maps by their number of edges as a class, from those of quartic maps; size 0 by itself.
-use Rattle.std.proofs.Common.{◌≡◌, ℕ, zero, suc, ◌*◌, ◌/◌, ◌<◌, ◌≤◌, List, [], ◌∷◌, length, map, slice_index, Ok, Err, refl, sym, ◌∙◌, ap, subst, arith}
+use Rattle.std.proofs.Common.{◌≡◌, ℕ, zero, suc, ◌*◌, ◌/◌, ◌<◌, ◌≤◌, List, [], ◌∷◌, length, map, slice_index, Ok, Err, inl, inr, refl, sym, ◌∙◌, ap, subst, arith}
 use Rattle.std.specs.List.{range_with_len}
 use Rattle.std.proofs.lemmas.List.FromFn.{get_or-map-range_with_len, length-map-range_with_len}
+use Rattle.std.proofs.lemmas.Bool.{cases_lt}
 use Rattle.pm_limits.specs.declared.TheConstants.{MAX_EDGES}
 use Rattle.pm_map.specs.Structure.{IsStructure}
+use Rattle.pm_map.specs.Plane.{edges}
 use Rattle.pm_map.specs.Rotation.{RotationSystem, structure_of, IsRootedMap}
 use Rattle.pm_map.specs.Classes.{IsGeneral, IsQuartic}
 use Rattle.pm_map.specs.ClassRules.{IsLeastOther}
@@ -15,7 +17,7 @@ use Rattle.pm_map.proofs.SameMaps.{same_as_itself}
 use Rattle.pm_class.specs.Behind.{IsSameAsImage, AreExchanged, SamplesBehind, AreChoicesOf}
 use Rattle.pm_class.specs.ClassLaws.{IsKeptByRenumbering, AreLimits, HasMostEdges}
 use Rattle.pm_class.specs.OneToOne.{AreOfClass, AreOneToOne}
-use Rattle.pm_class.specs.Sampling.{IsSampled, IsSizeWhereAnswered, HasOneAnswer}
+use Rattle.pm_class.specs.Sampling.{IsSampled, IsSizeWhereAnswered, HasOneAnswer, HasSomeAnswer}
 use Rattle.pm_class.specs.Unsampling.{IsUnsampled}
 use Rattle.pm_class.specs.declared.sample.Sample.{Sample}
 use Rattle.pm_class.proofs.ExchangedLemmas.{unsampled_by_choices}
@@ -186,3 +188,9 @@ unsampled_nothing zero m residue choices none rooted answered valid choices_are 
       given = given;
     }
 unsampled_nothing (suc n) m residue choices none rooted answered valid choices_are = absurd (omega (arith, none))
+
+pub some_general_answer : HasSomeAnswer IsGeneralAnswer
+some_general_answer m rooted told = elim (cases_lt (MAX_EDGES / 2) (edges (structure_of m))) [
+  | inl many ↦ told (Err (TooMany (edges (structure_of m)))) (record { counted = refl; more = many }) (λ e. cc)
+  | inr few ↦ told (Ok (edges (structure_of m))) (record { few = omega (arith, few) }, record { plane = rooted_is_plane m rooted; count = refl }) (λ e. cc)
+]

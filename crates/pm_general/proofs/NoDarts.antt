@@ -135,8 +135,8 @@ bounds_of_nothing P two one = All-cons P 2 (1 ∷ []) two (All-cons P 1 [] one (
 pub nothing_limits : AreLimits (2 ∷ []) (2 ∷ 1 ∷ [])
 nothing_limits = record {
   choice_bounds = record { each = All-cons (λ (bound : ℕ). 1 ≤ bound) 2 [] (omega arith) (All-nil (λ (bound : ℕ). 1 ≤ bound)) };
+  choices_fit = record { each = All-cons (λ (bound : ℕ). bound < 2 ^ 64) 2 [] (omega arith) (All-nil (λ (bound : ℕ). bound < 2 ^ 64)) };
   few_choices = omega arith;
-  low_choices = All-cons (λ (bound : ℕ). bound ≤ 2 ^ 64) 2 [] (omega arith) (All-nil (λ (bound : ℕ). bound ≤ 2 ^ 64));
   residue_bounds = record { each = bounds_of_nothing (λ (bound : ℕ). 1 ≤ bound) (omega arith) (omega arith) };
   few_residues = omega arith;
   low_residues = bounds_of_nothing (λ (bound : ℕ). bound ≤ 2 * MAX_EDGES) (omega arith) (omega arith);

@@ -22,6 +22,7 @@ pub mod SameMaps
 pub mod SearchLemmas
 pub mod SimpleDarts
 mod SimpleLemmas
+pub mod SomeParts
 pub mod StructureRotations
 pub mod TableLemmas
 pub mod TwinLemmas

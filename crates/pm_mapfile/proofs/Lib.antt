@@ -15,6 +15,7 @@ pub mod LinesLemmas
 pub mod LineCycles
 pub mod TextAnswers
 pub mod OneAnswer
+pub mod SomeAnswer
 pub mod ReadAgainLemmas
 pub mod CanonicalTexts
 pub mod TextLengths

@@ -8,6 +8,7 @@ pub mod Interleaved
 pub mod InverseLemmas
 pub mod LeaderMaps
 mod LeadersWritten
+pub mod LeastCases
 pub mod LeastLemmas
 mod Merged
 pub mod Nested

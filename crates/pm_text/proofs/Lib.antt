@@ -1,5 +1,6 @@
 pub mod LineLemmas
 pub mod BrokenLemmas
+pub mod WholeFiles
 pub mod NumeralLemmas
 pub mod ReadingLemmas
 pub mod WordLemmas

@@ -8,7 +8,7 @@ pub mod LeafCounts
 pub mod LeafTurns
 mod Least
 pub mod Levels
-mod Listing
+pub mod Listing
 pub mod Nesting
 pub mod Own
 mod PairRules
@@ -29,5 +29,5 @@ mod TreeEdges
 mod Turns
 pub mod Unique
 mod UniqueProfile
-mod Walk
+pub mod Walk
 pub mod Weights

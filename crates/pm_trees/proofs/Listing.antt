@@ -120,3 +120,19 @@ table_answer counts pairs (Ok profile) listed (same, is) = (subst (AreListed cou
 table_answer counts pairs (Err (Pair place)) listed first = (pairs, listed, first)
 table_answer counts pairs (Err (TooMany edges)) listed many = (pairs, listed, many)
 table_answer counts pairs (Err Memory) listed _ = tt
+
+-- each table has pairs
+listing_to : (counts : List ℕ) (most : ℕ) → (pairs : List (ℕ × ℕ)) × AreListedBelow counts pairs (suc most)
+listing_to counts zero = ([], listed_start counts [] refl)
+listing_to counts (suc most) =
+    let before = listing_to counts most in
+    elim (cases_eq (slice_index counts (suc most)) 0) [
+      | inl none ↦ (before.0, listed_none counts before.0 (suc most) (suc (suc most)) none refl before.1)
+      | inr some ↦ (
+        before.0 ++ (suc most, slice_index counts (suc most)) ∷ [],
+        listed_push counts before.0 (before.0 ++ (suc most, slice_index counts (suc most)) ∷ []) (suc most) (suc (suc most)) (slice_index counts (suc most)) (omega arith) refl (omega (arith, some)) refl refl before.1,
+      )
+    ]
+
+pub listing_exists : (counts : List ℕ) → (pairs : List (ℕ × ℕ)) × AreListed counts pairs
+listing_exists counts = let found = listing_to counts (length counts) in (found.0, listed_end counts found.0 (suc (length counts)) (omega arith) found.1)

@@ -277,11 +277,11 @@ degree_decides d =
       ]
     ]
 
-degrees_from : (word : List ℕ) → ((k : ℕ) → BreaksDegree (contour word) k → ⊥) → HasDegrees word
+pub degrees_from : (word : List ℕ) → ((k : ℕ) → BreaksDegree (contour word) k → ⊥) → HasDegrees word
 degrees_from word h = λ k n.
     elim (degree_decides (degree (contour word) k)) [ inl d ↦ d | inr b ↦ absurd (h k (record { is_node = n; breaks = b })) ]
 
-buds_from : (word : List ℕ) → ((k : ℕ) → BreaksBuds (contour word) k → ⊥) → HasBuds word
+pub buds_from : (word : List ℕ) → ((k : ℕ) → BreaksBuds (contour word) k → ⊥) → HasBuds word
 buds_from word h = λ k n.
     elim (cases_eq (2 * suc (buds (contour word) k)) (degree (contour word) k)) [ inl d ↦ d | inr b ↦ absurd (h k (record { is_node = n; breaks = b })) ]
 

@@ -1,12 +1,14 @@
 -- The laws of a class, as a bundle.
-use Rattle.pm_class.specs.ClassLaws.{AreLimits, HasMostEdges}
+use Rattle.pm_class.specs.ClassLaws.{IsKeptByRenumbering, AreLimits, HasMostEdges}
 use Rattle.pm_class.specs.OneToOne.{AreOneToOne}
-use Rattle.pm_class.specs.Sampling.{IsSizeWhereAnswered, HasOneAnswer}
+use Rattle.pm_class.specs.Sampling.{IsSizeWhereAnswered, HasOneAnswer, HasSomeAnswer}
 use Rattle.pm_cli.specs.Classes.{Sampler, AtSize}
 
 -- the laws of a class, as its sampler gives them
 pub record IsSampler (S : Sampler) : Type 0 where
   pub sized : IsSizeWhereAnswered S.is_size S.has S.answers
+  pub kept : (size : S.Measure) → S.is_size size → IsKeptByRenumbering (S.has size)
+  pub some_answer : HasSomeAnswer S.answers
   pub one_answer : HasOneAnswer S.answers
   pub one_to_one : (size : S.Measure) → S.is_size size → AreOneToOne (S.choice_limits size) (S.residue_limits size) (S.has size) (S.samples size)
   pub limits : (size : S.Measure) → S.is_size size → AreLimits (S.choice_limits size) (S.residue_limits size)

@@ -1,5 +1,5 @@
 use Rattle.pm_euler.proofs.QuarticClass.{quartic_one_to_one, quartic_kept_by_renumbering, quartic_limits, quartic_most_edges}
-use Rattle.pm_euler.proofs.QuarticMaps.{size_where_answered, one_quartic_answer}
+use Rattle.pm_euler.proofs.QuarticMaps.{size_where_answered, one_quartic_answer, some_quartic_answer}
 use Rattle.pm_euler.proofs.quartic.QuarticMapClass.is_one_to_one.Goals as goal
 
 pub returns-clause-sized : goal.returns-clause-sized
@@ -7,6 +7,9 @@ returns-clause-sized c = size_where_answered
 
 pub returns-clause-one_answer : goal.returns-clause-one_answer
 returns-clause-one_answer c = one_quartic_answer
+
+pub returns-clause-some_answer : goal.returns-clause-some_answer
+returns-clause-some_answer c = some_quartic_answer
 
 pub returns-clause-one_to_one : goal.returns-clause-one_to_one
 returns-clause-one_to_one c = quartic_one_to_one

@@ -1,5 +1,8 @@
-use Rattle.pm_general.proofs.GeneralClass.{general_one_to_one, general_limits, general_most_edges}
+use Rattle.pm_general.proofs.GeneralClass.{some_general_answer, general_one_to_one, general_limits, general_most_edges}
 use Rattle.pm_general.proofs.general.GeneralMapClass.is_one_to_one.Goals as goal
+
+pub returns-clause-some_answer : goal.returns-clause-some_answer
+returns-clause-some_answer c = some_general_answer
 
 pub returns-clause-one_to_one : goal.returns-clause-one_to_one
 returns-clause-one_to_one c = general_one_to_one c.through_is_one_to_one.ensures
