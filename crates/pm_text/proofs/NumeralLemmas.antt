@@ -6,7 +6,6 @@ use Rattle.std.specs.Char.{digit_value}
 use Rattle.std.specs.Int.{IsInRange}
 use Rattle.std.proofs.lemmas.Bool.{cases_eq}
 use Rattle.std.proofs.lemmas.Bool.Decides.{nat_tests}
-use Rattle.std.proofs.Math.Seq.{take-length}
 use Rattle.std.proofs.lemmas.Fmt.{decimal_is_IsNumeral, first_decimal, decimal_digit, decimal-digits_value}
 use Rattle.std.proofs.lemmas.Str.Parse.{IsNumeralModel, numerals_by_value, tells_digits, digits_value-take-le}
 use Rattle.std.proofs.lemmas.Int.Digits.{digits_value_more, digits_more}
@@ -45,11 +44,11 @@ digit_value_of_digit : (byte : ℕ) → 48 ≤ byte → byte ≤ 57 → digit_va
 digit_value_of_digit byte low high = grind (arith, nat_tests)
 
 -- one more digit after those that were read
-pub record ReadsDigits (word : List ℕ) (count value : ℕ) : Type 0 where
+pub record IsRead (word : List ℕ) (count value : ℕ) : Type 0 where
   pub digits : AllDigits 10 (take count word)
   pub value_is : value ≡ digits_value 10 (take count word)
 
-pub one_more_digit : (word : List ℕ) (count value : ℕ) → count < length word → ReadsDigits word count value → 48 ≤ get_or word count 0 → get_or word count 0 ≤ 57 → ReadsDigits word (count + 1) (value * 10 + (get_or word count 0 - 48))
+pub one_more_digit : (word : List ℕ) (count value : ℕ) → count < length word → IsRead word count value → 48 ≤ get_or word count 0 → get_or word count 0 ≤ 57 → IsRead word (count + 1) (value * 10 + (get_or word count 0 - 48))
 one_more_digit word count value less read low high =
     let of_digit = digit_value_of_digit (get_or word count 0) low high in
     record {
@@ -58,18 +57,13 @@ one_more_digit word count value less read low high =
     }
 
 -- digits that are read so far write no more than all of them
-pub value_so_far : (word : List ℕ) (count value : ℕ) → ReadsDigits word count value → value ≤ digits_value 10 word
+pub value_so_far : (word : List ℕ) (count value : ℕ) → IsRead word count value → value ≤ digits_value 10 word
 value_so_far word count value read = omega (arith, digits_value-take-le 10 word count (omega arith), read.value_is)
 
 -- the next digit written after those that were read is no more than all of them write
-pub next_value : (word : List ℕ) (count value : ℕ) → count < length word → ReadsDigits word count value → IsInRange 48 57 (get_or word count 0) → value * 10 + (get_or word count 0 - 48) ≤ digits_value 10 word
+pub next_value : (word : List ℕ) (count value : ℕ) → count < length word → IsRead word count value → IsInRange 48 57 (get_or word count 0) → value * 10 + (get_or word count 0 - 48) ≤ digits_value 10 word
 next_value word count value less read digit =
     value_so_far word (count + 1) (value * 10 + (get_or word count 0 - 48)) (one_more_digit word count value less read (omega arith) (omega arith))
-
-pub all_digits_read : (word : List ℕ) (count value : ℕ) → length word ≡ count → ReadsDigits word count value → AllDigits 10 word × (value ≡ digits_value 10 word)
-all_digits_read word count value all read =
-    let e : take count word ≡ word = rw (← all) (take-length word) in
-    (rw e at read.digits, rw e at read.value_is)
 
 pub has_one_spelling : HasOneSpelling
 has_one_spelling word number = (

@@ -1,7 +1,7 @@
 -- Numbers in texts: the decimal digits of a number of 64 bits, in their one spelling.
 use Rattle.std.specs.Prelude.{◌≡◌, ℕ, ◌<◌, ◌≤◌, ◌^◌, ◌↔◌, List, length, slice_index, take, decimal}
 use Rattle.std.specs.Int.{IsInRange}
-use Rattle.std.specs.Str.Parse.{IsNumeral, digits_value}
+use Rattle.std.specs.Str.Parse.{AllDigits, IsNumeral, digits_value}
 
 -- the word spells the number: it is `0`, or decimal digits without a leading zero, and the number that
 -- they write is at most 18446744073709551615
@@ -19,6 +19,18 @@ HasOneSpelling = (word : List ℕ) (number : ℕ) → IsNumber word number ↔ (
 pub record HasDigit (bytes : List ℕ) (place : ℕ) : Type 0 where
   pub within : place < length bytes
   pub digit : IsInRange 48 57 (slice_index bytes place)
+
+-- so many bytes at the front are digits, and they write this number
+pub record ReadsDigits (bytes : List ℕ) (count value : ℕ) : Type 0 where
+  pub within : count ≤ length bytes
+  pub digits : AllDigits 10 (take count bytes)
+  pub value_is : value ≡ digits_value 10 (take count bytes)
+  pub fits : value < 2 ^ 64
+
+-- the same, and no digit stands after them
+pub record AreLeadingDigits (bytes : List ℕ) (value count : ℕ) : Type 0 where
+  pub read : ReadsDigits bytes count value
+  pub ends : ¬ HasDigit bytes count
 
 -- so many bytes at the front spell the number, and no digit stands after them
 pub record IsLeadingNumber (bytes : List ℕ) (number count : ℕ) : Type 0 where

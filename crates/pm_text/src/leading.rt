@@ -1,6 +1,9 @@
 //! Numbers at the front of a text.
-ghost use Rattle.std.specs.Prelude.{◌≡◌, ℕ, ◌+◌, slice_index, MatchOption};
-ghost use Rattle.pm_text.specs.Numeral.{HasDigit, IsLeadingNumber};
+ghost use Rattle.std.specs.Prelude.{◌≡◌, ℕ, ◌+◌, ◌≤◌, length, slice_index, MatchOption};
+ghost use Rattle.pm_text.specs.Numeral.{AreLeadingDigits, HasDigit, IsLeadingNumber, ReadsDigits};
+
+// So many digits write a number of 64 bits, whatever they are.
+const SAFE_DIGITS: usize = 19;
 
 /// A number at the front of a text.
 #[derive(Clone, Copy, Debug, PartialEq, Eq)]
@@ -17,14 +20,50 @@ pub fn leading_number(bytes: &[u8]) -> Option<LeadingNumber>
     ensures { MatchOption result ((value count : ℕ) → ¬ IsLeadingNumber bytes.now value count)
         (λ number. IsLeadingNumber bytes.now number.value number.length) }
 {
+    let number = leading_digits(bytes)?;
+    if number.length == 0 || (number.length > 1 && bytes[0] == b'0') {
+        return None;
+    }
+    Some(number)
+}
+
+// What the digits at the front write, where it fits; they may be none, and begin with a zero.
+fn leading_digits(bytes: &[u8]) -> Option<LeadingNumber>
+    ensures { MatchOption result ((value count : ℕ) → ¬ IsLeadingNumber bytes.now value count)
+        (λ number. AreLeadingDigits bytes.now number.value number.length) }
+{
+    let front = few_digits(&bytes[..bytes.len().min(SAFE_DIGITS)]);
+    if front.length < SAFE_DIGITS {
+        return Some(front);
+    }
+    more_digits(bytes, front)
+}
+
+// What the digits at the front of so few bytes write. It needs no test for what is too great.
+fn few_digits(bytes: &[u8]) -> LeadingNumber
+    requires { length bytes.now ≤ SAFE_DIGITS }
+    ensures { AreLeadingDigits bytes.now result.value result.length }
+{
     let mut value: u64 = 0;
     let mut length: usize = 0;
     'digits: while let Some(digit) = digit_at(bytes, length) {
-        value = value.checked_mul(10)?.checked_add(u64::from(digit))?;
+        value = 10 * value + u64::from(digit);
         length += 1;
     }
-    if length == 0 || (length > 1 && bytes[0] == b'0') {
-        return None;
+    LeadingNumber { value, length }
+}
+
+// What the digits at the front write, where the first of them are read, and where it fits.
+fn more_digits(bytes: &[u8], front: LeadingNumber) -> Option<LeadingNumber>
+    requires { ReadsDigits bytes.now front.length front.value }
+    ensures { MatchOption result ((value count : ℕ) → ¬ IsLeadingNumber bytes.now value count)
+        (λ number. AreLeadingDigits bytes.now number.value number.length) }
+{
+    let mut value = front.value;
+    let mut length = front.length;
+    'digits: while let Some(digit) = digit_at(bytes, length) {
+        value = value.checked_mul(10)?.checked_add(u64::from(digit))?;
+        length += 1;
     }
     Some(LeadingNumber { value, length })
 }

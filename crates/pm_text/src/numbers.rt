@@ -4,6 +4,7 @@ ghost use Rattle.std.specs.Option.{SomeIff};
 ghost use Rattle.std.specs.Str.Parse.{AllDigits, digits_value};
 ghost use Rattle.pm_text.specs.Numeral.{IsNumber, HasOneSpelling};
 
+use crate::leading::leading_number;
 use itoa::write_digits;
 use std::alloc::{AllocError, Global};
 
@@ -13,25 +14,11 @@ pub fn number(word: &[u8]) -> Option<u64>
     ensures cases { MatchOption result ((value : ℕ) → ¬ IsNumber word.now value) (IsNumber word.now) }
     ensures exact { (value : ℕ) → (result ≡ Some value) ↔ IsNumber word.now value }
 {
-    if word.is_empty() || (word[0] == b'0' && word.len() > 1) {
+    let number = leading_number(word)?;
+    if number.length < word.len() {
         return None;
     }
-    read_digits(word)
-}
-
-// The number that decimal digits write, where there is no other byte and the number fits.
-fn read_digits(word: &[u8]) -> Option<u64>
-    ensures { let all = digits_value 10 word.now in
-        SomeIff result (AllDigits 10 word.now × (all < 2 ^ 64)) all }
-{
-    let mut value: u64 = 0;
-    for byte in word {
-        if !byte.is_ascii_digit() {
-            return None;
-        }
-        value = value.checked_mul(10)?.checked_add(u64::from(*byte - b'0'))?;
-    }
-    Some(value)
+    Some(number.value)
 }
 
 /// Appends the one spelling of `value` to `text`.
