@@ -1,11 +1,17 @@
-ghost use Rattle.std.specs.Prelude.{◌≡◌, ◌++◌, codes, length, sum, IfOk, OnOk, OnErr};
-ghost use Rattle.pm_mapfile.specs.MapText.{map_line, vertex_line, vertex_lines, HasCanonicalText, HasOneText, IsMapText, AppendsMapText};
+ghost use Rattle.std.specs.Prelude.{◌≡◌, ◌*◌, ◌≤◌, ◌++◌, codes, length, sum, IfOk, OnOk, OnErr};
+ghost use Rattle.pm_mapfile.specs.MapText.{dart_words, map_line, vertex_line, vertex_lines, HasCanonicalText, HasOneText, IsMapText, AppendsMapText};
 ghost use Rattle.pm_mapfile.specs.steps.Printed.{cut};
 
+use itoa::write_digits;
 use pm_canon::{canonical_vertex_list, vertex_list};
 use pm_map::RootedMap;
 use pm_text::put_spaced_number;
 use std::alloc::{AllocError, Global};
+
+/// So many darts of a line are put at once.
+const PIECE_DARTS: usize = 64;
+/// A dart has at most ten digits, and a space before them.
+const PIECE_BYTES: usize = 704;
 
 /// Appends the text of `map` to `text`: its darts as they are numbered, its vertices in the order in which they are met
 /// from the root.
@@ -96,23 +102,43 @@ fn put_vertices(
     requires { sum sizes.now ≡ length darts.now }
     ensures { OnOk result (text.new.items ≡ text.old.items ++ vertex_lines (cut sizes.now darts.now)) }
 {
+    let mut piece = vec![in alloc; 0u8; PIECE_BYTES]?;
     let mut start = 0;
     'lines: for size in sizes {
         let end = start + *size as usize;
-        put_vertex(alloc, &darts[start..end], text)?;
+        put_vertex(&darts[start..end], &mut piece, text)?;
         start = end;
     }
     Ok(())
 }
 
-/// Appends the line of the vertex of these darts.
-fn put_vertex(alloc: Global, vertex: &[u32], text: &mut Vec<u8>) -> Result<(), AllocError>
+/// Appends the line of the vertex of these darts, by way of `piece`.
+fn put_vertex(vertex: &[u32], piece: &mut [u8], text: &mut Vec<u8>) -> Result<(), AllocError>
+    requires { length piece.old ≡ PIECE_BYTES }
     ensures { OnOk result (text.new.items ≡ text.old.items ++ vertex_line vertex.now) }
 {
     text.push(b'v')?;
-    'darts: for dart in vertex {
-        put_spaced_number(alloc, u64::from(*dart), text)?;
+    let mut start = 0;
+    'pieces: while start < vertex.len() {
+        let end = start + PIECE_DARTS.min(vertex.len() - start);
+        put_darts(&vertex[start..end], piece, text)?;
+        start = end;
     }
     text.push(b'\n')?;
     Ok(())
+}
+
+/// Appends a space and the spelling of each dart. They are written to the end of `piece` first, the last one first.
+fn put_darts(darts: &[u32], piece: &mut [u8], text: &mut Vec<u8>) -> Result<(), AllocError>
+    requires { 11 * length darts.now ≤ length piece.old }
+    ensures { OnOk result (text.new.items ≡ text.old.items ++ dart_words darts.now) }
+{
+    let mut start = piece.len();
+    let mut left = darts.len();
+    'darts: while left > 0 {
+        left -= 1;
+        start = write_digits(u64::from(darts[left]), piece, start) - 1;
+        piece[start] = b' ';
+    }
+    text.extend_from_slice(&piece[start..])
 }

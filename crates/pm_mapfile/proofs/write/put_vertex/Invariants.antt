@@ -1,7 +1,10 @@
-use Rattle.std.proofs.Common.{◌≡◌, ◌++◌, take}
+use Rattle.std.proofs.Common.{◌≡◌, ◌-◌, ◌≤◌, ◌++◌, length, take}
 use Rattle.std.specs.Prelude.{codes}
 use Rattle.pm_mapfile.specs.MapText.{dart_words}
 use Rattle.pm_mapfile.proofs.write.put_vertex.Given as goal
 
-abbrev pub invariant-darts : goal.invariant-darts
-invariant-darts l = l.text.items ≡ l.fn.text.items ++ (codes "v" ++ dart_words (take l.dart-index l.vertex))
+abbrev pub invariant-pieces : goal.invariant-pieces
+invariant-pieces l = (l.start ≤ length l.vertex) × (l.text.items ≡ l.fn.text.items ++ (codes "v" ++ dart_words (take l.start l.vertex)))
+
+abbrev pub decreases-pieces : goal.decreases-pieces
+decreases-pieces l = length l.vertex - l.start
