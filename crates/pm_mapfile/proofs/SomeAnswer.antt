@@ -1,17 +1,17 @@
 -- No bytes are without an answer.
 use Rattle.std.proofs.Common.{◌≡◌, ℕ, suc, ◌*◌, ◌<◌, ◌≤◌, inl, inr, List, map, length, slice_index, Option, Result, Ok, Err, refl, ap, subst, arith}
-use Rattle.std.specs.List.{concat, range_with_len}
+use Rattle.std.specs.List.{Contains, concat, range_with_len}
 use Rattle.std.proofs.lemmas.Bool.{cases_lt}
 use Rattle.std.proofs.lemmas.List.FromFn.{get_or-map-range_with_len, length-map-range_with_len}
 use Rattle.pm_limits.specs.declared.TheConstants.{MAX_EDGES}
 use Rattle.pm_perm.proofs.InverseLemmas.{place_of, place_of-value}
+use Rattle.pm_perm.proofs.Contained.{is_at}
 use Rattle.pm_perm.proofs.LeastCases.{all_or_least}
 use Rattle.pm_text.specs.Broken.{lines, GoesOnValid, IsBrokenLine}
 use Rattle.pm_text.proofs.WholeFiles.{same_to_the_end}
 use Rattle.pm_map.specs.declared.rooted_map.RootedMap.{RootedMap}
 use Rattle.pm_map.specs.declared.refusal.MapRefusal.{MapRefusal}
 use Rattle.pm_map.specs.declared.refusal.MapRefusal.TheVariants.{Memory as MemoryOfMap, TooMany, NotPermutation, NotConnected, Genus}
-use Rattle.pm_map.specs.Meeting.{Stands}
 use Rattle.pm_map.proofs.SomeParts.{some_map_answer}
 use Rattle.pm_mapfile.specs.declared.refusal.FileRefusal.{FileRefusal}
 use Rattle.pm_mapfile.specs.declared.refusal.FileRefusal.TheVariants.{Memory, Text, Map}
@@ -29,7 +29,7 @@ valid_or_broken valid bytes fine broken =
     (λ line is. broken line (record { broken = λ file valid_file same. is.breaks (record { file = file; is_valid = valid_file; same = same }); least = is.least }))
 
 -- the rotation of lines on which each dart stands
-rotation_exists : (m : MapLines) → ((d : ℕ) → d < length (concat m.vertices) → Stands (concat m.vertices) d)
+rotation_exists : (m : MapLines) → ((d : ℕ) → d < length (concat m.vertices) → Contains (concat m.vertices) d)
     → (sigma : List ℕ) × CarriesOn (concat m.vertices) (turned_lines (map length m.vertices) (concat m.vertices)) sigma
 rotation_exists m all =
     let darts : List ℕ = concat m.vertices in
@@ -41,7 +41,7 @@ rotation_exists m all =
         size = length-map-range_with_len next 0 (length darts);
         each = λ d h.
             let stands = all d h in
-            let found : (place d < length darts) × (slice_index darts (place d) ≡ d) = place_of-value (slice_index darts) (length darts) d (record { from = stands.0; below = stands.1.within; value = stands.1.here }) in
+            let found : (place d < length darts) × (slice_index darts (place d) ≡ d) = place_of-value (slice_index darts) (length darts) d (record { from = stands.0; below = stands.1; value = is_at darts d stands }) in
             record { place = place d; within = found.0; here = found.1; is_next = get_or-map-range_with_len next 0 (length darts) d d 0 h (omega arith) };
       },
     )
@@ -52,7 +52,7 @@ some_lines_answer : (m : MapLines) (limit : ℕ) → AreMapLines m → limit ≤
 some_lines_answer m limit are le told = elim (cases_lt limit m.edges) [
   | inl many ↦ told (Err (TooMany m.edges)) (record { many = many; counted = refl }) (λ e. cc)
   | inr few ↦
-      all_or_least (Stands (concat m.vertices)) (length (concat m.vertices)) (λ all. whole few (rotation_exists m all))
+      all_or_least (Contains (concat m.vertices)) (length (concat m.vertices)) (λ all. whole few (rotation_exists m all))
       (λ dart missing. told (Err (NotPermutation dart)) (record { few = few; missing = missing }) (λ e. cc))
 ] where
   whole : m.edges ≤ limit → (sigma : List ℕ) × CarriesOn (concat m.vertices) (turned_lines (map length m.vertices) (concat m.vertices)) sigma → ⊥
