@@ -5,4 +5,5 @@ pub mod ListLemmas
 pub mod MeetingLemmas
 mod MentionLemmas
 mod NamingLemmas
+mod NamedLemmas
 pub mod WalkLemmas

@@ -1,16 +1,13 @@
 -- The sizes of the vertices of a meeting list, and the list of the canonical map.
-use Rattle.std.proofs.Common.{◌≡◌, ◌≢◌, ℕ, suc, ◌+◌, ◌-◌, ◌<◌, ◌≤◌, inl, inr, List, [], ◌∷◌, ◌++◌, length, get_or, set, take, drop, map, slice_index, refl, sym, ◌∙◌, ap, subst, arith, append_assoc, length-append}
-use Rattle.std.specs.Prelude.{All}
-use borrow.Author.Count.{below_more}
+use Rattle.std.proofs.Common.{◌≡◌, ◌≢◌, ℕ, suc, ◌+◌, ◌-◌, ◌<◌, ◌≤◌, inl, inr, List, [], ◌∷◌, ◌++◌, length, get_or, take, drop, map, slice_index, refl, sym, ◌∙◌, ap, subst, arith, append_assoc, length-append}
 use Rattle.std.proofs.lemmas.Bool.{cases_lt}
-use Rattle.std.proofs.lemmas.List.Elements.{All-from_get_or}
-use Rattle.std.proofs.lemmas.List.{ext_get_or, take_at, get_or-map, get_or-set_same, get_or-set_other, append-nil, map-append, length-map, get_or-append_right, get_or_append_left}
+use Rattle.std.proofs.lemmas.List.{take_at, append-nil, map-append, length-map, get_or-append_right, get_or_append_left}
 use Rattle.pm_map.specs.Structure.{Structure, CarriesTo}
 use Rattle.pm_map.specs.Rotation.{RotationSystem, structure_of}
 use Rattle.pm_map.specs.Meeting.{IsVertexFrom, IsMeetingList, Meets, at_root, onward, no_dart, complete, darts_of}
 use Rattle.pm_map.proofs.UniqueMeeting.{vertex_begins}
 use Rattle.pm_map.proofs.CarriedMeeting.{darts_of-append, darts_of-map, meeting_list_carried}
-use Rattle.pm_canon.specs.MeetingOrder.{HasEachOnce, IsMeetingOrder}
+use Rattle.pm_canon.specs.MeetingOrder.{IsMeetingOrder}
 use Rattle.pm_canon.specs.VertexList.{IsVertexList, IsCanonicalList}
 use Rattle.pm_canon.specs.steps.Naming.{IsRenamed}
 use Rattle.pm_canon.specs.steps.Sizing.{AreVertices, none, some, IsSizing}
@@ -156,24 +153,6 @@ sizing_all s darts sizes start place z end = cut z.rest z.order z.is_list z.with
   cut (v ∷ others) order is_list within =
       absurd (omega (arith, within v others refl, end, z.at, ap length order, length-append (darts_of z.done) (v ++ darts_of others), length-append v (darts_of others)))
 
--- the first darts are named, the others are as they were
-pub record AreNamed (names old new : List ℕ) (count : ℕ) : Type 0 where
-  pub named : (k : ℕ) → k < count → get_or new k 0 ≡ get_or names (get_or old k 0) 0
-  pub kept : (k : ℕ) → count ≤ k → get_or new k 0 ≡ get_or old k 0
-
-pub named_more : (names old new : List ℕ) (count : ℕ) → AreNamed names old new count → count < length new
-    → AreNamed names old (set new count (get_or names (get_or new count 0) 0)) (count + 1)
-named_more names old new count n h = record {
-  named = below_more _ _ (λ k less. get_or-set_other new count k (get_or names (get_or new count 0) 0) 0 (λ e. omega (arith, e, less)) ∙ n.named k less)
-      (get_or-set_same new count (get_or names (get_or new count 0) 0) 0 h ∙ ap (λ d. get_or names d 0) (n.kept count (omega arith)));
-  kept = λ k from. get_or-set_other new count k (get_or names (get_or new count 0) 0) 0 (λ e. omega (arith, e, from)) ∙ n.kept k (omega (arith, from));
-}
-
-pub named_all : (names old new : List ℕ) (count : ℕ) → AreNamed names old new count → length new ≡ length old → length new ≤ count → new ≡ map (slice_index names) old
-named_all names old new count n size all =
-    ext_get_or 0 new (map (slice_index names) old) (size ∙ sym (length-map old (slice_index names)))
-    (λ k h. n.named k (omega (arith, h, all)) ∙ sym (get_or-map (slice_index names) old k 0 0 (omega (arith, h, size))))
-
 -- the list with names is that of the canonical map
 pub named_list : (m : RotationSystem) (darts names sizes named : List ℕ) → IsNumbered m darts names → IsVertexList (structure_of m) darts sizes → named ≡ map (slice_index names) darts
     → IsCanonicalList m named sizes
@@ -195,10 +174,6 @@ named_list m darts names sizes named n list is =
       same_sizes : (vertices : List (List ℕ)) → map length vertices ≡ map length (map (map (slice_index names)) vertices)
       same_sizes [] = refl
       same_sizes (v ∷ vertices) = ap (λ n. n ∷ map length vertices) (sym (length-map v (slice_index names))) ∙ ap (λ l. length (map (slice_index names) v) ∷ l) (same_sizes vertices)
-
--- the darts are below the bound
-pub each_below : (bound : ℕ) (darts : List ℕ) → HasEachOnce bound darts → All (λ dart. dart < bound) darts
-each_below bound darts once = All-from_get_or (λ dart. dart < bound) darts 0 once.stays
 
 -- the list of a map whose parts were read one by one
 pub listed_again : (m : RotationSystem) (sigma : List ℕ) (root : ℕ) (darts sizes : List ℕ) → sigma ≡ m.sigma → root ≡ m.root

@@ -23,8 +23,8 @@ pub fn canon(alloc: Global, map: &RootedMap) -> Result<RootedMap, AllocError>
     ensures { IfOk result (λ canonical. IsCanonicalOf map.now canonical) }
 {
     let sigma = map.sigma();
-    let darts = meeting::meeting_list(alloc, sigma, map.root())?;
-    let names = naming::names_of(alloc, &darts, sigma.len())?;
+    let mut darts = meeting::meeting_list(alloc, sigma, map.root())?;
+    let names = naming::names_of(alloc, &mut darts, sigma.len())?;
     let renamed = naming::renamed(alloc, sigma, &names)?;
     Ok(RootedMap::from_rooted_rotation(renamed, 0))
 }

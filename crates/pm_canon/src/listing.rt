@@ -1,5 +1,5 @@
 //! The vertices of a map in the order in which they are met, as lists of darts.
-ghost use Rattle.std.specs.Prelude.{◌≡◌, ◌<◌, ◌^◌, All, IfOk, length, map, slice_index};
+ghost use Rattle.std.specs.Prelude.{◌<◌, ◌^◌, IfOk, length};
 ghost use Rattle.pm_map.specs.Rotation.{structure_of};
 ghost use Rattle.pm_canon.specs.MeetingOrder.{IsMeetingOrder};
 ghost use Rattle.pm_canon.specs.VertexList.{IsCanonicalList, IsVertexList};
@@ -46,8 +46,7 @@ pub fn canonical_vertex_list(alloc: Global, map: &RootedMap) -> Result<VertexLis
     let root = map.root();
     let mut darts = meeting_list(alloc, sigma, root)?;
     let sizes = vertex_sizes(alloc, sigma, root, &darts)?;
-    let names = names_of(alloc, &darts, sigma.len())?;
-    name_darts(&names, &mut darts);
+    names_of(alloc, &mut darts, sigma.len())?;
     Ok(VertexList { darts, sizes })
 }
 
@@ -71,14 +70,4 @@ fn vertex_sizes(
         }
     }
     Ok(sizes)
-}
-
-/// Writes the name of each dart in its place.
-fn name_darts(names: &[u32], darts: &mut [u32])
-    requires { All (λ dart. dart < length names.now) darts.old }
-    ensures { darts.new ≡ map (slice_index names.now) darts.old }
-{
-    'darts: for dart in darts.iter_mut() {
-        *dart = names[*dart as usize];
-    }
 }

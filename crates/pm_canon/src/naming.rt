@@ -1,61 +1,58 @@
-ghost use Rattle.std.specs.Prelude.{◌≡◌, ◌+◌, ◌*◌, ◌%◌, ◌<◌, ◌≤◌, length, take, IfOk, []};
+ghost use Rattle.std.specs.Prelude.{◌≡◌, ◌*◌, ◌%◌, ◌<◌, ◌≤◌, length, map, slice_index, IfOk};
 ghost use Rattle.pm_limits.specs.declared.TheConstants.{MAX_EDGES};
 ghost use Rattle.pm_perm.specs.Permutation.{IsPermutationList, IsPermutationBelow};
 ghost use Rattle.pm_canon.specs.MeetingOrder.{HasEachOnce};
-ghost use Rattle.pm_canon.specs.steps.Kept.{MarksDarts};
-ghost use Rattle.pm_canon.specs.steps.Naming.{IsNaming, NamesMentions, IsRenamed};
+ghost use Rattle.pm_canon.specs.steps.Naming.{AreUnnamed, NamesEdge, NamesMentions, IsRenamed};
 
 use pm_map::twin_of;
 use std::alloc::{AllocError, Global};
 
-/// The name of each dart by the order in which the list mentions the edges first.
-pub fn names_of(alloc: Global, darts: &[u32], size: usize) -> Result<Vec<u32>, AllocError>
+/// What stands for the name of a dart of an edge that isn't mentioned yet. No name is as great.
+const UNNAMED: u32 = u32::MAX;
+
+/// The name of each dart by the order in which the list mentions the edges first. The darts of the list become their names.
+pub fn names_of(alloc: Global, darts: &mut [u32], size: usize) -> Result<Vec<u32>, AllocError>
     requires even { size % 2 ≡ 0 }
     requires few { size ≤ 2 * MAX_EDGES }
-    requires once { HasEachOnce size darts.now }
+    requires once { HasEachOnce size darts.old }
     ensures size { IfOk result (λ names. length names.items ≡ size) }
-    ensures names { IfOk result (λ names. NamesMentions darts.now names.items) }
+    ensures names { IfOk result (λ names. NamesMentions darts.old names.items) }
+    ensures named { IfOk result (λ names. darts.new ≡ map (slice_index names.items) darts.old) }
 {
-    let mut seen = vec![in alloc; false; size]?;
-    let mut names = vec![in alloc; 0; size]?;
-    name_all(darts, &mut seen, &mut names);
+    let mut names = vec![in alloc; UNNAMED; size]?;
+    name_all(darts, &mut names);
     Ok(names)
 }
 
-/// Names each edge where it is first mentioned. No dart is marked as seen before.
-fn name_all(darts: &[u32], seen: &mut [bool], names: &mut [u32])
+/// Names each edge where it is first mentioned, and writes the name of each dart in its place. No dart has a name before.
+fn name_all(darts: &mut [u32], names: &mut [u32])
     requires even { length names.old % 2 ≡ 0 }
     requires few { length names.old ≤ 2 * MAX_EDGES }
-    requires size { length seen.old ≡ length names.old }
-    requires once { HasEachOnce (length names.old) darts.now }
-    requires unseen { MarksDarts seen.old [] }
-    ensures { NamesMentions darts.now names.new }
+    requires once { HasEachOnce (length names.old) darts.old }
+    requires unnamed { AreUnnamed names.old }
+    ensures names { NamesMentions darts.old names.new }
+    ensures named { darts.new ≡ map (slice_index names.new) darts.old }
 {
     let mut name = 0;
     'name: for place in 0..darts.len() {
-        name = name_mention(darts, place, name, seen, names);
+        let dart = darts[place];
+        name = name_edge(dart, name, names);
+        darts[place] = names[dart as usize];
     }
 }
 
-/// Names the edge of the dart at this place, where its twin is not seen yet, and answers the next name.
-fn name_mention(darts: &[u32], place: usize, name: u32, seen: &mut [bool], names: &mut [u32]) -> u32
+/// Names the edge of the dart where it has no name, and answers the next name.
+fn name_edge(dart: u32, name: u32, names: &mut [u32]) -> u32
     requires even { length names.old % 2 ≡ 0 }
-    requires few { length names.old ≤ 2 * MAX_EDGES }
-    requires size { length seen.old ≡ length names.old }
-    requires once { HasEachOnce (length names.old) darts.now }
-    requires within { place < length darts.now }
-    requires naming { IsNaming (take place darts.now) seen.old names.old name }
-    ensures { IsNaming (take (place + 1) darts.now) seen.new names.new result }
+    requires within { dart < length names.old }
+    requires few { name ≤ 4 * MAX_EDGES }
+    ensures { NamesEdge dart name names.old names.new result }
 {
-    let dart = darts[place];
-    let other = twin_of(dart);
-    let is_mentioned = seen[other as usize];
-    seen[dart as usize] = true;
-    if is_mentioned {
+    if names[dart as usize] != UNNAMED {
         return name;
     }
     names[dart as usize] = name;
-    names[other as usize] = name + 1;
+    names[twin_of(dart) as usize] = name + 1;
     name + 2
 }
 
