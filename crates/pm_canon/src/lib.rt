@@ -12,8 +12,8 @@ mod meeting;
 mod naming;
 
 pub use laws::canonical_exists;
-pub use listing::{VertexList, canonical_vertex_list, vertex_list};
-pub use meeting::meeting_list;
+pub use listing::{canonical_vertex_list, vertex_list};
+pub use meeting::{VertexList, meeting_list};
 use pm_map::RootedMap;
 use std::alloc::{AllocError, Global};
 

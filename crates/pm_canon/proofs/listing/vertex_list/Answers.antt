@@ -1,7 +1,5 @@
-use Rattle.std.proofs.Common.{ap, length, arith}
-use Rattle.pm_canon.proofs.KeptLemmas.{HasEachOnce-length}
+use Rattle.pm_canon.proofs.ListLemmas.{list_answer}
 use Rattle.pm_canon.proofs.listing.vertex_list.Goals as goal
 
-pub vertex_sizes-requires-clause-few : goal.vertex_sizes-requires-clause-few
-vertex_sizes-requires-clause-few c =
-    omega (arith, ap length c.deref.ensures.value, HasEachOnce-length _ _ c.in_ok-darts.ensures.once, ap length c.sigma-sigma.ensures.sigma, c.sigma-sigma.ensures.valid.few)
+pub returns : goal.returns
+returns c = list_answer c.vertices_met.result c.args.map.now c.sigma.result.now c.root.result c.sigma.ensures.sigma c.root.ensures c.vertices_met.ensures.met c.vertices_met.ensures.sized
