@@ -1,5 +1,5 @@
 //! Worked values.
-use crate::{canon, meeting_list, same};
+use crate::{canon, canonical_vertex_list, meeting_list, same, vertex_list};
 use pm_map::{MapRefusal, RootedMap};
 use std::alloc::{AllocError, Global};
 use std::test::Fail;
@@ -47,6 +47,28 @@ fn meets_and_numbers(rt: HostRuntime) -> Result<(), Fail> {
         assert_eq!(rt; canonical.sigma(), canonical_sigma);
         assert!(rt; same(rt.alloc(), &map, &canonical)?);
         assert_eq!(rt; same(rt.alloc(), &map, &path)?, is_path);
+    }
+    Ok(())
+}
+
+// The vertices of the path from its middle and from an end, and of the loops, and those of their canonical maps.
+#[test]
+fn lists_vertices(rt: HostRuntime) -> Result<(), Fail> {
+    let rows: [(&[u32], u32, &[u32], &[u32], &[u32]); 3] = [
+        (&PATH, 3, &[3, 0, 2, 1], &[0, 2, 1, 3], &[2, 1, 1]),
+        (&PATH, 1, &[1, 0, 3, 2], &[0, 1, 2, 3], &[1, 2, 1]),
+        (&LOOPS, 3, &[3, 0, 1, 2], &[0, 2, 3, 1], &[4]),
+    ];
+    for (sigma, root, darts, names, sizes) in rows {
+        let answer = answer_of(rt.alloc(), sigma, root)?;
+        assert!(rt; matches!(&answer, Some(Ok(_))));
+        let Some(Ok(map)) = answer else { return Ok(()) };
+        let list = vertex_list(rt.alloc(), &map)?;
+        assert_eq!(rt; list.darts.as_slice(), darts);
+        assert_eq!(rt; list.sizes.as_slice(), sizes);
+        let canonical = canonical_vertex_list(rt.alloc(), &map)?;
+        assert_eq!(rt; canonical.darts.as_slice(), names);
+        assert_eq!(rt; canonical.sizes.as_slice(), sizes);
     }
     Ok(())
 }

@@ -1,5 +1,7 @@
 //! Worked texts.
-use crate::{FileRefusal, map_bytes, put_map, read_map, read_map_file, read_sample_file};
+use crate::{
+    FileRefusal, canonical_bytes, map_bytes, put_map, read_map, read_map_file, read_sample_file,
+};
 use pm_canon::same;
 use pm_lists::{NumList, put_list};
 use pm_map::{MapRefusal, RootedMap};
@@ -32,6 +34,11 @@ fn vertices_as_they_are_met(rt: HostRuntime) -> Result<(), Fail> {
     );
     let alone = map_bytes(rt.alloc(), &map)?;
     assert_eq!(rt; alone.as_slice(), text.as_slice());
+    let canonical = canonical_bytes(rt.alloc(), &map)?;
+    assert_eq!(rt;
+        canonical.as_slice(),
+        b"map 2 0\nv 0 2\nv 1\nv 3\nend\n".as_slice()
+    );
     Ok(())
 }
 
