@@ -15,18 +15,16 @@ use Rattle.pm_canon.proofs.ExistenceLemmas.{canonical_map_exists}
 use Rattle.pm_close.specs.Closure.{IsClosed}
 use Rattle.pm_close.proofs.PlaneMap.{rooted_closure}
 use Rattle.pm_close.proofs.SomeClosure.{each_tree_closes}
-use Rattle.pm_euler.specs.Closed.{IsCanonicalClosure}
 use Rattle.pm_euler.specs.PlantedAnew.{IsFreeLeaf, IsPlantedAnew}
+use Rattle.pm_euler.specs.Sampled.{IsClosedAnew}
 use Rattle.pm_euler.proofs.FreeLeaves.{free_leaf_exists, free_leaf_numbered, anew_from}
 use Rattle.pm_euler.proofs.OneSample.{anew_blossoms, anew_balances}
 
 -- the tree planted anew at its free leaf of a number, its old plant, and the canonical map of its closure
 pub record HasClosure (word : List ℕ) (free : ℕ) : Type 0 where
-  pub turned : List ℕ
   pub old_plant : ℕ
   pub map : RotationSystem
-  pub is_anew : IsPlantedAnew word free turned old_plant
-  pub is_closed : IsCanonicalClosure turned map
+  pub is : IsClosedAnew word free map old_plant
 
 -- the tree planted anew, and its old plant
 record IsAnew (word : List ℕ) (free : ℕ) : Type 0 where
@@ -56,9 +54,7 @@ closed_anew word free tree few =
     let closed : (map : RotationSystem) × IsClosed (contour anew.turned) map = each_tree_closes anew.turned blossoming in
     let named : (canonical : RotationSystem) × IsCanonicalOf closed.0 canonical = canonical_map_exists closed.0 (rooted_closure anew.turned closed.0 blossoming balanced closed.1) in
     record {
-      turned = anew.turned;
       old_plant = anew.old_plant;
       map = named.0;
-      is_anew = anew.is;
-      is_closed = record { closure = closed.0; is_closure = closed.1; is_canonical = named.1 };
+      is = record { turned = anew.turned; is_anew = anew.is; is_closed = record { closure = closed.0; is_closure = closed.1; is_canonical = named.1 } };
     }

@@ -1,5 +1,5 @@
 -- The bounds of the choices and the residues of Eulerian maps are bounds, and what is below them.
-use Rattle.std.proofs.Common.{◌≡◌, ℕ, zero, suc, ◌+◌, ◌-◌, ◌*◌, ◌/◌, ◌^◌, ◌<◌, ◌≤◌, pow_mono, List, [], ◌∷◌, ◌++◌, length, length-append, length-take, length-drop, take, replicate, append_assoc, drop, map, refl, sym, ◌∙◌, ap, subst, arith}
+use Rattle.std.proofs.Common.{◌≡◌, ℕ, zero, suc, ◌+◌, ◌-◌, ◌*◌, ◌/◌, ◌^◌, ◌<◌, ◌≤◌, pow_mono, List, [], ◌∷◌, ◌++◌, length, length-append, length-take, length-drop, take, replicate, append_assoc, drop, map, refl, sym, ◌∙◌, ap, subst, arith, take_all, ap₂}
 use Rattle.std.specs.Prelude.{slice_index, All, flat_map}
 use Rattle.std.proofs.Math.ListN.{get_or-append}
 use Rattle.std.proofs.lemmas.List.{flat_map_more, take_more, map-append, get_or-append_right, get_or-take, get_or-drop, get_or-map, length-map}
@@ -12,7 +12,6 @@ use Rattle.pm_trees.specs.BudPattern.{IsHalfDegree}
 use Rattle.pm_trees.specs.Pairs.{IsProfile, edges_of, pair_at}
 use Rattle.pm_trees.proofs.Binomials.{choose_some, choose-le-power}
 use Rattle.pm_objects.specs.Codes.{code_bounds, bounds_by_range}
-use Rattle.pm_objects.proofs.ObjectCounts.{HasObjects as HaveRanges}
 use Rattle.pm_euler.specs.Objects.{halves_of, nodes_of_profile, leaves_of_profile, ranges_of}
 use Rattle.pm_euler.specs.Bounds.{eulerian_choices, eulerian_residues}
 use Rattle.pm_euler.specs.Eulerian.{codes_by_degree}
@@ -60,19 +59,23 @@ pub bounds_flat : (pairs : List (ℕ × ℕ)) → flat_map (λ (r : ℕ × ℕ).
 bounds_flat [] = refl
 bounds_flat (p ∷ pairs) = ap (λ (xs : List ℕ). code_bounds p.1 ++ xs) (bounds_flat pairs)
 
-pub residues_by_range : (pairs : List (ℕ × ℕ)) → eulerian_residues pairs ≡ suc (edges_of pairs) ∷ (bounds_by_range (ranges_of pairs) (leaves_of_profile pairs) ++ suc (leaves_of_profile pairs) ∷ [])
-residues_by_range pairs = ap (λ (bounds : List ℕ). suc (edges_of pairs) ∷ (bounds ++ code_bounds (leaves_of_profile pairs) ++ suc (leaves_of_profile pairs) ∷ [])) (sym (bounds_flat pairs))
-
-pub eulerian_residues_are : (pairs : List (ℕ × ℕ)) → IsProfile pairs → AreBounds (eulerian_residues pairs)
-eulerian_residues_are pairs is =
+pub eulerian_residues_are : (pairs : List (ℕ × ℕ)) → AreBounds (eulerian_residues pairs)
+eulerian_residues_are pairs =
     let leaves : ℕ = leaves_of_profile pairs in
-    subst AreBounds (sym (residues_by_range pairs)) (record {
+    record {
       each =
           All-cons (λ (bound : ℕ). 1 ≤ bound) (suc (edges_of pairs)) (bounds_by_range (ranges_of pairs) leaves ++ suc leaves ∷ []) (omega arith)
           (All-append (λ (bound : ℕ). 1 ≤ bound) (bounds_by_range (ranges_of pairs) leaves) (suc leaves ∷ [])
           (All-append (λ (bound : ℕ). 1 ≤ bound) (flat_map (λ (r : ℕ × ℕ). code_bounds r.1) (ranges_of pairs)) (code_bounds leaves) (codes_positive (ranges_of pairs)) (code_positive leaves))
           (All-cons (λ (bound : ℕ). 1 ≤ bound) (suc leaves) [] (omega arith) (All-nil (λ (bound : ℕ). 1 ≤ bound))));
-    })
+    }
+
+-- the residue's bounds, as they are written
+pub residue_limits_are : (pairs items : List (ℕ × ℕ)) (i leaves last : ℕ) (limits more all : List ℕ) → items ≡ pairs → length items ≤ i → limits ≡ suc (edges_of pairs) ∷ flat_map (λ (p : ℕ × ℕ). code_bounds p.1) (take i items)
+    → leaves ≡ leaves_of_profile pairs → more ≡ limits ++ code_bounds leaves → last ≡ suc leaves → all ≡ more ++ last ∷ [] → all ≡ eulerian_residues pairs
+residue_limits_are pairs items i leaves last limits more all same past l counted m ends e =
+    let flat = l ∙ ap (λ (ps : List (ℕ × ℕ)). suc (edges_of pairs) ∷ flat_map (λ (p : ℕ × ℕ). code_bounds p.1) ps) (take_all i items past ∙ same) ∙ ap (λ (bs : List ℕ). suc (edges_of pairs) ∷ bs) (sym (bounds_flat pairs)) in
+    e ∙ ap₂ (λ (xs : List ℕ) (k : ℕ). xs ++ k ∷ []) (m ∙ ap₂ (λ (xs : List ℕ) (n : ℕ). xs ++ code_bounds n) flat counted) (ends ∙ ap suc counted)
 
 -- the half degrees, pair by pair
 pub halves_flat : (pairs : List (ℕ × ℕ)) → halves_of pairs ≡ flat_map (λ (p : ℕ × ℕ). replicate p.1 (p.0 / 2)) pairs
@@ -110,84 +113,3 @@ length-eulerian_choices pairs =
       length-code_bounds (suc e),
       length-map (halves_of pairs) (λ half. choose (2 * half - 1) half),
     )
-
-long_front : (pairs : List (ℕ × ℕ)) → length (code_bounds (suc (edges_of pairs)) ++ map (λ half. choose (2 * half - 1) half) (halves_of pairs)) ≡ suc (edges_of pairs) + nodes_of_profile pairs
-long_front pairs =
-    omega (
-      arith,
-      length-append (code_bounds (suc (edges_of pairs))) (map (λ half. choose (2 * half - 1) half) (halves_of pairs)),
-      length-code_bounds (suc (edges_of pairs)),
-      length-map (halves_of pairs) (λ half. choose (2 * half - 1) half),
-    )
-
-choice_of_code : (pairs : List (ℕ × ℕ)) (k : ℕ) → k < suc (edges_of pairs) → slice_index (eulerian_choices pairs) k ≡ suc (edges_of pairs) - k
-choice_of_code pairs k less =
-    let a = length-code_bounds (suc (edges_of pairs)) in
-    let b = long_front pairs in
-    get_or-append (code_bounds (suc (edges_of pairs)) ++ map (λ half. choose (2 * half - 1) half) (halves_of pairs)) (2 ∷ []) 0 k (omega arith)
-    ∙ get_or-append (code_bounds (suc (edges_of pairs))) (map (λ half. choose (2 * half - 1) half) (halves_of pairs)) 0 k (omega arith) ∙ code_bound (suc (edges_of pairs)) k less
-
-choice_of_rank : (pairs : List (ℕ × ℕ)) (k : ℕ) → k < nodes_of_profile pairs
-    → slice_index (eulerian_choices pairs) (suc (edges_of pairs) + k) ≡ choose (2 * slice_index (halves_of pairs) k - 1) (slice_index (halves_of pairs) k)
-choice_of_rank pairs k less =
-    let a = length-code_bounds (suc (edges_of pairs)) in
-    let b = long_front pairs in
-    let e : suc (edges_of pairs) + k - suc (edges_of pairs) ≡ k = omega arith in
-    get_or-append (code_bounds (suc (edges_of pairs)) ++ map (λ half. choose (2 * half - 1) half) (halves_of pairs)) (2 ∷ []) 0 (suc (edges_of pairs) + k) (omega arith)
-    ∙ get_or-append_right (code_bounds (suc (edges_of pairs))) (map (λ half. choose (2 * half - 1) half) (halves_of pairs)) (suc (edges_of pairs)) (suc (edges_of pairs) + k) 0 a (omega arith)
-    ∙ ap (slice_index (map (λ half. choose (2 * half - 1) half) (halves_of pairs))) e
-    ∙ get_or-map (λ half. choose (2 * half - 1) half) (halves_of pairs) k 0 0 less
-
-choice_of_free : (pairs : List (ℕ × ℕ)) → slice_index (eulerian_choices pairs) (suc (edges_of pairs) + nodes_of_profile pairs) ≡ 2
-choice_of_free pairs =
-    let place : ℕ = suc (edges_of pairs) + nodes_of_profile pairs in
-    let b = long_front pairs in
-    let e : place - place ≡ 0 = omega arith in
-    get_or-append_right (code_bounds (suc (edges_of pairs)) ++ map (λ half. choose (2 * half - 1) half) (halves_of pairs)) (2 ∷ []) place place 0 b (omega arith) ∙ ap (slice_index (2 ∷ [])) e
-
--- what valid choices are, part by part
-pub arrangement_long : (pairs : List (ℕ × ℕ)) (choices : List ℕ) → IsValidList choices (eulerian_choices pairs) → length (take (suc (edges_of pairs)) choices) ≡ suc (edges_of pairs)
-arrangement_long pairs choices valid =
-    let long : length choices ≡ suc (edges_of pairs) + nodes_of_profile pairs + 1 = valid.as_long ∙ length-eulerian_choices pairs in
-    simp length-take (omega arith)
-
-pub arrangement_is_valid : (pairs : List (ℕ × ℕ)) (choices : List ℕ) → IsValidList choices (eulerian_choices pairs) → IsArrangementCode (take (suc (edges_of pairs)) choices)
-arrangement_is_valid pairs choices valid = record {
-  below = λ place inside.
-      let long : length choices ≡ suc (edges_of pairs) + nodes_of_profile pairs + 1 = valid.as_long ∙ length-eulerian_choices pairs in
-      let few = arrangement_long pairs choices valid in
-      let within : place < suc (edges_of pairs) = omega arith in
-      omega (arith, few, get_or-take (suc (edges_of pairs)) choices place 0 within, choice_of_code pairs place within, valid.below place (omega arith));
-}
-
-pub ranks_long : (pairs : List (ℕ × ℕ)) (choices : List ℕ) → IsValidList choices (eulerian_choices pairs) → length (take (nodes_of_profile pairs) (drop (suc (edges_of pairs)) choices)) ≡ nodes_of_profile pairs
-ranks_long pairs choices valid =
-    let long : length choices ≡ suc (edges_of pairs) + nodes_of_profile pairs + 1 = valid.as_long ∙ length-eulerian_choices pairs in
-    simp (length-take, length-drop) (omega arith)
-
-pub rank_is_valid : (pairs : List (ℕ × ℕ)) (choices : List ℕ) (k : ℕ) → IsValidList choices (eulerian_choices pairs) → k < nodes_of_profile pairs
-    → slice_index (take (nodes_of_profile pairs) (drop (suc (edges_of pairs)) choices)) k < choose (2 * slice_index (halves_of pairs) k - 1) (slice_index (halves_of pairs) k)
-rank_is_valid pairs choices k valid less =
-    let long : length choices ≡ suc (edges_of pairs) + nodes_of_profile pairs + 1 = valid.as_long ∙ length-eulerian_choices pairs in
-    omega (
-      arith,
-      get_or-take (nodes_of_profile pairs) (drop (suc (edges_of pairs)) choices) k 0 less,
-      get_or-drop (suc (edges_of pairs)) choices k 0,
-      choice_of_rank pairs k less,
-      valid.below (suc (edges_of pairs) + k) (omega arith),
-    )
-
-pub free_is_valid : (pairs : List (ℕ × ℕ)) (choices : List ℕ) → IsValidList choices (eulerian_choices pairs) → slice_index choices (suc (edges_of pairs) + nodes_of_profile pairs) < 2
-free_is_valid pairs choices valid =
-    let long : length choices ≡ suc (edges_of pairs) + nodes_of_profile pairs + 1 = valid.as_long ∙ length-eulerian_choices pairs in
-    omega (arith, choice_of_free pairs, valid.below (suc (edges_of pairs) + nodes_of_profile pairs) (omega arith))
-
-pub eulerian_residue_is_valid : (pairs : List (ℕ × ℕ)) (objects : List ℕ) (start old_plant : ℕ) → HaveRanges (ranges_of pairs) (leaves_of_profile pairs) objects → start < suc (edges_of pairs) → old_plant < suc (leaves_of_profile pairs)
-    → IsValidList (start ∷ (codes_by_degree pairs objects ++ old_plant ∷ [])) (eulerian_residues pairs)
-eulerian_residue_is_valid pairs objects start old_plant has low few =
-    let leaves : ℕ = leaves_of_profile pairs in
-    let bounds : List ℕ = bounds_by_range (ranges_of pairs) leaves in
-    subst (IsValidList (start ∷ (codes_by_degree pairs objects ++ old_plant ∷ []))) (sym (residues_by_range pairs))
-    (valid_cons start (suc (edges_of pairs)) (codes_by_degree pairs objects ++ old_plant ∷ []) (bounds ++ suc leaves ∷ []) low
-    (valid_append (codes_by_degree pairs objects) (old_plant ∷ []) bounds (suc leaves ∷ []) (valid_codes (ranges_of pairs) leaves objects has)
-    (valid_cons old_plant (suc leaves) [] [] few (record { as_long = refl; below = λ k less. absurd (omega arith) }))))

@@ -1,10 +1,11 @@
 -- The laws of maps with given even degrees as a class.
-use Rattle.std.proofs.Common.{ℕ, zero, suc, ◌*◌, ◌<◌, ◌≤◌, List, [], ◌∷◌, ◌++◌, length, length-append, refl, sym, subst, arith}
+use Rattle.std.proofs.Common.{ℕ, zero, suc, ◌*◌, ◌<◌, ◌≤◌, List, [], ◌∷◌, ◌++◌, length, length-append, refl, arith}
+use Rattle.pm_euler.proofs.EulerianMade.{eulerian_makes, eulerian_joins}
+use Rattle.pm_euler.proofs.TreeSamples.{IsTreeClass, tree_one_to_one}
 use Rattle.std.specs.Prelude.{All, flat_map}
 use Rattle.std.specs.List.{sum_by}
 use Rattle.std.proofs.lemmas.List.Elements.{All-append, All-nil, All-cons}
 use Rattle.std.proofs.lemmas.List.Sums.{sum_by-cons}
-use Rattle.pm_lists.specs.Valid.{AreBounds}
 use Rattle.pm_limits.specs.declared.TheConstants.{MAX_EDGES}
 use Rattle.pm_map.specs.Rotation.{structure_of}
 use Rattle.pm_map.specs.Classes.{IsEulerian, vertices_of_degree}
@@ -14,24 +15,23 @@ use Rattle.pm_trees.specs.Pairs.{IsProfile, IsRightPair, edges_of}
 use Rattle.pm_trees.proofs.CountedPairs.{sum_bounded}
 use Rattle.pm_class.specs.ClassLaws.{IsKeptByRenumbering, AreLimits, HasMostEdges}
 use Rattle.pm_class.specs.OneToOne.{AreOneToOne}
-use Rattle.pm_class.proofs.OneToOneLemmas.{one_to_one}
 use Rattle.pm_objects.specs.Codes.{code_bounds}
-use Rattle.pm_euler.specs.Bounds.{eulerian_choices, eulerian_residues}
-use Rattle.pm_euler.specs.Eulerian.{SamplesEulerian}
+use Rattle.pm_euler.specs.Bounds.{eulerian_rests, eulerian_fronts, eulerian_choices, eulerian_residues}
+use Rattle.pm_euler.specs.Eulerian.{MakesEulerian, SamplesEulerian}
 use Rattle.pm_objects.proofs.ObjectCounts.{nodes_by_ranges}
 use Rattle.pm_euler.specs.Objects.{leaves_of_profile, ranges_of}
 use Rattle.pm_objects.proofs.CodeBounds.{code_bounds_low, length-bounds_by_range}
 use Rattle.pm_euler.proofs.EulerianBounds.{eulerian_choices_are, eulerian_choices_fit, eulerian_residues_are, length-eulerian_choices, residues_by_range}
 use Rattle.pm_euler.proofs.EulerianLists.{one_eulerian_list}
 use Rattle.pm_euler.proofs.EulerianMaps.{counted_of_degrees}
-use Rattle.pm_euler.proofs.EulerianPairs.{each_eulerian_pair}
-use Rattle.pm_euler.proofs.EulerianSamples.{each_eulerian_list_is_sampled, one_eulerian_sample}
 use Rattle.pm_euler.proofs.ObjectLemmas.{halves_few}
 
+pub eulerian_class : (pairs : List (ℕ × ℕ)) → IsProfile pairs
+    → IsTreeClass pairs (eulerian_fronts pairs) (eulerian_rests pairs) (eulerian_residues pairs) (λ m. IsEulerian (structure_of m) pairs) (MakesEulerian pairs) (λ rest old_plant. rest ++ old_plant ∷ [])
+eulerian_class pairs is = record { profile = is; maps = λ m rooted. (λ has. has, λ has. has); trees = eulerian_makes pairs is; joins = eulerian_joins pairs }
+
 pub eulerian_one_to_one : (pairs : List (ℕ × ℕ)) → IsProfile pairs → AreOneToOne (eulerian_choices pairs) (eulerian_residues pairs) (λ m. IsEulerian (structure_of m) pairs) (SamplesEulerian pairs)
-eulerian_one_to_one pairs is =
-    one_to_one (eulerian_choices pairs) (eulerian_residues pairs) (λ m. IsEulerian (structure_of m) pairs) (SamplesEulerian pairs) (λ choices map residue given. given.valid)
-    (each_eulerian_list_is_sampled pairs is) (each_eulerian_pair pairs is) (one_eulerian_sample pairs is) (one_eulerian_list pairs is)
+eulerian_one_to_one pairs is = tree_one_to_one (eulerian_class pairs is)
 
 pub eulerian_kept_by_renumbering : (pairs : List (ℕ × ℕ)) → IsKeptByRenumbering (λ m. IsEulerian (structure_of m) pairs)
 eulerian_kept_by_renumbering pairs map other rooted after = eulerian_kept pairs (structure_of map) (structure_of other) rooted.structure after.structure
@@ -51,11 +51,11 @@ eulerian_limits pairs is =
     let choices = length-eulerian_choices pairs in
     let leaves : ℕ = leaves_of_profile pairs in
     let codes : List ℕ = flat_map (λ (r : ℕ × ℕ). code_bounds r.1) (ranges_of pairs) in
-    subst (AreLimits (eulerian_choices pairs)) (sym (residues_by_range pairs)) (record {
+    record {
       choice_bounds = eulerian_choices_are pairs is;
       choices_fit = eulerian_choices_fit pairs is (omega (arith, few));
       few_choices = omega (arith, few, nodes, choices);
-      residue_bounds = subst AreBounds (residues_by_range pairs) (eulerian_residues_are pairs is);
+      residue_bounds = eulerian_residues_are pairs;
       few_residues =
           let all = length-append (codes ++ code_bounds leaves) (suc leaves ∷ []) in
           omega (arith, few, nodes, all, length-bounds_by_range (ranges_of pairs) leaves);
@@ -64,7 +64,7 @@ eulerian_limits pairs is =
           (All-append (λ (bound : ℕ). bound ≤ 2 * MAX_EDGES) (codes ++ code_bounds leaves) (suc leaves ∷ [])
           (All-append (λ (bound : ℕ). bound ≤ 2 * MAX_EDGES) codes (code_bounds leaves) (codes_low (2 * MAX_EDGES) (ranges_of pairs) (omega (arith, few, nodes, counted))) (code_bounds_low (2 * MAX_EDGES) leaves (omega (arith, few))))
           (All-cons (λ (bound : ℕ). bound ≤ 2 * MAX_EDGES) (suc leaves) [] (omega (arith, few)) (All-nil (λ (bound : ℕ). bound ≤ 2 * MAX_EDGES))));
-    })
+    }
 
 -- a profile with as many edges as a map may have
 greatest_pairs : List (ℕ × ℕ)

@@ -1,6 +1,5 @@
 -- The choices of a size give one map and one residue.
-use Rattle.std.proofs.Common.{◌≡◌, ℕ, ◌*◌, ◌<◌, List, ◌∷◌, inl, inr, length, take, drop, refl, sym, ◌∙◌, ap, subst, arith}
-use Rattle.std.specs.Prelude.{slice_index}
+use Rattle.std.proofs.Common.{◌≡◌, ℕ, ◌<◌, List, inl, inr, length, take, refl, sym, ◌∙◌, ap, subst, arith}
 use Rattle.std.proofs.lemmas.Bool.{cases_eq}
 use Rattle.pm_trees.specs.declared.letters.TheConstants.{LEAF}
 use Rattle.pm_trees.specs.Word.{contour, count}
@@ -14,16 +13,9 @@ use Rattle.pm_trees.proofs.LeafTurns.{one_leaf, leaf_few, leaf_within}
 use Rattle.pm_trees.proofs.Replants.{replanted_unique, replanted_alike}
 use Rattle.pm_match.specs.Pair.{IsFree, IsBalanced}
 use Rattle.pm_match.proofs.Paired.{at_most_two_free}
-use Rattle.pm_lehmer.specs.Lehmer.{code_of}
-use Rattle.pm_remy.specs.Tree.{labels_of}
-use Rattle.pm_remy.specs.Growth.{grown}
 use Rattle.pm_map.specs.Rotation.{RotationSystem}
 use Rattle.pm_euler.specs.PlantedAnew.{IsChosen, IsPlantedAnew, IsPlantedAt, first, second}
 use Rattle.pm_euler.specs.Closed.{IsCanonicalClosure}
-use Rattle.pm_euler.specs.Quartic.{IsQuarticSize, SamplesQuartic}
-use Rattle.pm_class.specs.Sampling.{HasOneSample}
-use Rattle.pm_euler.proofs.QuarticTrees.{planted_blossoming, planted_unique}
-use Rattle.pm_euler.proofs.BoundLemmas.{length-quartic_choices, ranks_long}
 use Rattle.pm_euler.proofs.FreeLeaves.{anew_balanced}
 use Rattle.pm_euler.proofs.ClosedMaps.{one_canonical_closure}
 
@@ -98,12 +90,3 @@ closed_anew_once word same_word free one other a b map same_map tree words x y c
 pub old_plant_few : (word : List ℕ) (free : ℕ) (turned : List ℕ) (old : ℕ) → IsBlossoming word → IsPlantedAnew word free turned old → old < leaves word
 old_plant_few word free turned old tree x =
     subst (λ (n : ℕ). old < n) (anew_alike word free turned old tree x).leaves_are (leaf_few (contour turned) old x.now x.is_old_number)
-
-pub one_quartic_sample : (n : ℕ) → IsQuarticSize n → HasOneSample (SamplesQuartic n)
-one_quartic_sample n size choices map other residue rest x y =
-    let long : length (take n (drop n choices)) ≡ n = ranks_long n choices (x.valid.as_long ∙ length-quartic_choices n) in
-    let few = size.few in
-    let words : y.word ≡ x.word = planted_unique (grown (take n choices)) (take n (drop n choices)) y.word x.word y.is_planted x.is_planted in
-    let tree : IsBlossoming x.word = planted_blossoming (grown (take n choices)) (take n (drop n choices)) x.word x.is_planted (omega arith) in
-    let same = closed_anew_once x.word y.word (slice_index choices (2 * n)) x.turned y.turned x.old_plant y.old_plant map other tree words x.is_anew y.is_anew x.is_closed y.is_closed in
-    (same.0, x.residue_is ∙ ap (λ (k : ℕ). k ∷ code_of (labels_of (grown (take n choices)))) same.1 ∙ sym y.residue_is)

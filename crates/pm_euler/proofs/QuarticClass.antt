@@ -1,5 +1,7 @@
 -- The laws of quartic maps as a class.
-use Rattle.std.proofs.Common.{ℕ, ◌+◌, ◌*◌, ◌/◌, ◌^◌, ◌≤◌, arith}
+use Rattle.std.proofs.Common.{ℕ, ◌+◌, ◌*◌, ◌/◌, ◌^◌, ◌≤◌, arith, ◌∷◌}
+use Rattle.pm_euler.proofs.QuarticMade.{quartic_profile, quartic_makes, quartic_joins}
+use Rattle.pm_euler.proofs.TreeSamples.{IsTreeClass, tree_one_to_one}
 use Rattle.std.proofs.lemmas.List.Elements.{All-cons}
 use Rattle.pm_limits.specs.declared.TheConstants.{MAX_EDGES}
 use Rattle.pm_map.specs.Rotation.{structure_of}
@@ -7,20 +9,21 @@ use Rattle.pm_map.specs.Classes.{IsQuartic}
 use Rattle.pm_map.proofs.ClassesKept.{quartic_kept}
 use Rattle.pm_class.specs.ClassLaws.{IsKeptByRenumbering, AreLimits, HasMostEdges}
 use Rattle.pm_class.specs.OneToOne.{AreOneToOne}
-use Rattle.pm_class.proofs.OneToOneLemmas.{one_to_one}
 use Rattle.pm_objects.specs.Codes.{code_bounds}
-use Rattle.pm_euler.specs.Bounds.{quartic_choices, quartic_residues}
-use Rattle.pm_euler.specs.Quartic.{IsQuarticSize, SamplesQuartic}
+use Rattle.pm_euler.specs.Bounds.{quartic_fronts, quartic_choices, quartic_residues}
+use Rattle.pm_euler.specs.Quartic.{MakesQuartic, quartic_pairs, IsQuarticSize, SamplesQuartic}
 use Rattle.pm_objects.proofs.CodeBounds.{length-code_bounds, code_bounds_low}
 use Rattle.pm_euler.proofs.BoundLemmas.{quartic_choices_are, quartic_choices_fit, quartic_residues_are, length-quartic_choices}
 use Rattle.pm_euler.proofs.OneSample.{one_quartic_sample}
 use Rattle.pm_euler.proofs.QuarticLists.{quartic_darts, each_quartic_pair, one_quartic_list}
 use Rattle.pm_euler.proofs.QuarticSamples.{each_quartic_list_is_sampled}
+use Rattle.pm_euler.proofs.QuarticMaps.{quartic_maps, quartic_darts}
+
+pub quartic_class : (n : ℕ) → IsQuarticSize n → IsTreeClass (quartic_pairs n) (quartic_fronts n) (code_bounds (n + 1)) (quartic_residues n) (λ m. IsQuartic (structure_of m) n) (MakesQuartic n) (λ rest old_plant. old_plant ∷ rest)
+quartic_class n size = record { profile = quartic_profile n size; maps = quartic_maps n size; trees = quartic_makes n size; joins = quartic_joins n }
 
 pub quartic_one_to_one : (n : ℕ) → IsQuarticSize n → AreOneToOne (quartic_choices n) (quartic_residues n) (λ m. IsQuartic (structure_of m) n) (SamplesQuartic n)
-quartic_one_to_one n size =
-    one_to_one (quartic_choices n) (quartic_residues n) (λ m. IsQuartic (structure_of m) n) (SamplesQuartic n) (λ choices map residue given. given.valid) (each_quartic_list_is_sampled n size)
-    (each_quartic_pair n) (one_quartic_sample n size) (one_quartic_list n size)
+quartic_one_to_one n size = tree_one_to_one (quartic_class n size)
 
 pub quartic_kept_by_renumbering : (n : ℕ) → IsKeptByRenumbering (λ m. IsQuartic (structure_of m) n)
 quartic_kept_by_renumbering n map other rooted after = quartic_kept n (structure_of map) (structure_of other) rooted.structure after.structure

@@ -1,7 +1,6 @@
 -- Which map and which residue a list of choices gives: maps with vertices of given even degrees (Schaeffer 1997).
-use Rattle.std.specs.Prelude.{◌≡◌, ℕ, suc, ◌+◌, List, [], ◌∷◌, ◌++◌, slice_index, take, drop, length, Result, Ok, Err, ⊤}
+use Rattle.std.specs.Prelude.{◌≡◌, ℕ, suc, List, [], ◌∷◌, ◌++◌, take, drop, length, Result, Ok, Err, ⊤}
 use Rattle.pm_limits.specs.declared.TheConstants.{MAX_DEGREE}
-use Rattle.pm_lists.specs.Valid.{IsValidList}
 use Rattle.pm_trees.specs.Pairs.{IsProfile, edges_of}
 use Rattle.pm_map.specs.Rotation.{RotationSystem, structure_of}
 use Rattle.pm_map.specs.Classes.{IsEulerian}
@@ -9,33 +8,28 @@ use Rattle.pm_map.specs.ClassRules.{IsLeastOther}
 use Rattle.pm_map.specs.declared.admitted.Degrees.TheVariants.{EvenUpTo}
 use Rattle.pm_map.specs.declared.class_refusal.ClassRefusal.{ClassRefusal}
 use Rattle.pm_map.specs.declared.class_refusal.ClassRefusal.TheVariants.{Memory, Empty, TooMany, Vertex, Face, Loop, Double}
-use Rattle.pm_euler.specs.Bounds.{eulerian_choices}
+use Rattle.pm_euler.specs.Bounds.{eulerian_fronts}
 use Rattle.pm_objects.specs.Codes.{codes_by_range}
 use Rattle.pm_objects.specs.Preorder.{ArePreordered}
-use Rattle.pm_euler.specs.Objects.{halves_of, nodes_of_profile, ranges_of}
-use Rattle.pm_planting.specs.Kinds.{IsPlantedPlane}
-use Rattle.pm_euler.specs.PlantedAnew.{IsPlantedAnew}
-use Rattle.pm_euler.specs.Closed.{IsCanonicalClosure}
+use Rattle.pm_euler.specs.Objects.{IsPlantedPlane, halves_of, ranges_of}
+use Rattle.pm_euler.specs.Sampled.{SamplesByTree}
 
 -- for each degree the arrangement code of its objects, as they come, and then that of the leaf objects
 abbrev pub codes_by_degree : List (ℕ × ℕ) → List ℕ → List ℕ
 codes_by_degree pairs objects = codes_by_range (ranges_of pairs) objects
 
--- The first choices are the code of an arrangement of the objects, which read from its good start is the preorder of a
--- plane tree. The next ones are the patterns of the node objects. The last says at which free leaf the blossoming tree is
--- planted anew. It is closed; the residue is the start, the codes by degree, and the number of the old plant.
-pub record SamplesEulerian (pairs : List (ℕ × ℕ)) (choices : List ℕ) (map : RotationSystem) (residue : List ℕ) : Type 0 where
-  pub valid : IsValidList choices (eulerian_choices pairs)
+-- The first numbers are the code of an arrangement of the objects, which read from its good start is the preorder of a plane
+-- tree. The next ones are the patterns of the node objects. The rest is the start and the codes by degree.
+pub record MakesEulerian (pairs : List (ℕ × ℕ)) (front word rest : List ℕ) : Type 0 where
   pub start : ℕ
   pub objects : List ℕ
-  pub are_preordered : ArePreordered 1 (halves_of pairs) (take (suc (edges_of pairs)) choices) start objects
-  pub word : List ℕ
-  pub is_planted : IsPlantedPlane (halves_of pairs) (take (nodes_of_profile pairs) (drop (suc (edges_of pairs)) choices)) objects word
-  pub planted_anew : List ℕ
-  pub old_plant : ℕ
-  pub is_anew : IsPlantedAnew word (slice_index choices (suc (edges_of pairs) + nodes_of_profile pairs)) planted_anew old_plant
-  pub is_closed : IsCanonicalClosure planted_anew map
-  pub residue_is : residue ≡ start ∷ (codes_by_degree pairs objects ++ old_plant ∷ [])
+  pub are_preordered : ArePreordered 1 (halves_of pairs) (take (suc (edges_of pairs)) front) start objects
+  pub is_planted : IsPlantedPlane (halves_of pairs) (drop (suc (edges_of pairs)) front) objects word
+  pub rest_is : rest ≡ start ∷ codes_by_degree pairs objects
+
+-- the residue is the rest, and the number of the old plant
+abbrev pub SamplesEulerian : List (ℕ × ℕ) → List ℕ → RotationSystem → List ℕ → Type 0
+SamplesEulerian pairs choices map residue = SamplesByTree (eulerian_fronts pairs) (MakesEulerian pairs) (λ rest old_plant. rest ++ old_plant ∷ []) choices map residue
 
 -- What a map is answered that should have vertices of even degrees: how many it has of which degree, or the first rule
 -- that it breaks. Want of memory may come at any map.

@@ -5,5 +5,5 @@ pub mod Objects
 pub mod Planted
 pub mod PlantedAnew
 pub mod Quartic
-pub mod steps
+pub mod Sampled
 pub mod Unplanted

@@ -1,24 +1,50 @@
-//! A tree planted anew at one of its two free leaves.
+//! A tree planted anew at one of its two free leaves, and closed there.
 ghost use Rattle.std.specs.Prelude.{◌<◌, IfOk};
 ghost use Rattle.pm_trees.specs.Replanting.{IsAlike};
 ghost use Rattle.pm_trees.specs.Word.{contour};
 ghost use Rattle.pm_match.specs.Pair.{IsBalanced};
 ghost use Rattle.pm_euler.specs.PlantedAnew.{IsFreeLeaf, IsPlantedAnew};
+ghost use Rattle.pm_euler.specs.Sampled.{IsClosedAnew};
 
+use pm_canon::canon;
+use pm_close::close_balanced;
+use pm_map::RootedMap;
 use pm_match::matching;
 use pm_trees::{Tree, replant};
 use std::alloc::{AllocError, Global};
 
+/// The canonical map of the closure of a tree that is planted at a free leaf, and the number in it of the leaf that was the
+/// plant before.
+#[derive(Drop)]
+pub(crate) struct ClosedAnew {
+    pub(crate) map: RootedMap,
+    pub(crate) old_plant: u32,
+}
+
+/// The tree, planted at its free leaf of this number, as a map: the second and the third step of sampling.
+pub(crate) fn closed_anew(alloc: Global, tree: &Tree, free: u64) -> Result<ClosedAnew, AllocError>
+    requires { free < 2 }
+    ensures { IfOk result (λ closed. IsClosedAnew tree.now free closed.map closed.old_plant) }
+{
+    let anew = plant_anew(alloc, tree, free)?;
+    let closed = close_balanced(alloc, &anew.tree)?;
+    let map = canon(alloc, &closed.map)?;
+    Ok(ClosedAnew {
+        map,
+        old_plant: anew.old_plant,
+    })
+}
+
 /// A tree planted at a free leaf, and the number in it of the leaf that was the plant before.
 #[derive(Drop)]
-pub(crate) struct PlantedAnew {
-    pub(crate) tree: Tree,
-    pub(crate) old_plant: u32,
+struct PlantedAnew {
+    tree: Tree,
+    old_plant: u32,
 }
 
 /// The tree planted at its free leaf of this number: the first one, counted along the contour from the plant on, is 0, and
 /// the second one is 1.
-pub(crate) fn plant_anew(alloc: Global, tree: &Tree, free: u64) -> Result<PlantedAnew, AllocError>
+fn plant_anew(alloc: Global, tree: &Tree, free: u64) -> Result<PlantedAnew, AllocError>
     requires { free < 2 }
     ensures anew { IfOk result (λ anew. IsPlantedAnew tree.now free anew.tree anew.old_plant) }
     ensures balanced { IfOk result (λ anew. IsBalanced (contour anew.tree)) }

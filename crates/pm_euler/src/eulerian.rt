@@ -1,20 +1,22 @@
 //! Eulerian maps: each vertex has an even degree.
-ghost use Rattle.std.specs.Prelude.{◌≡◌, ◌∷◌, ◌++◌, [], ℕ, suc, List, IfOk, IsTrue, ◌↔◌, ◌<◌, ◌^◌, length};
+ghost use Rattle.std.specs.Prelude.{◌≡◌, ◌∷◌, ℕ, suc, List, IfOk, IsTrue, ◌↔◌, ◌<◌, ◌^◌, length};
 ghost use Rattle.pm_limits.specs.declared.TheConstants.{MAX_EDGES};
 ghost use Rattle.pm_lehmer.specs.Lehmer.{IsArrangementCode};
 ghost use Rattle.pm_map.specs.Classes.{IsEulerian};
 ghost use Rattle.pm_map.specs.Rotation.{structure_of};
 ghost use Rattle.pm_trees.specs.Pairs.{IsProfile, edges_of};
-ghost use Rattle.pm_euler.specs.Bounds.{eulerian_choices, eulerian_residues};
+ghost use Rattle.pm_lists.specs.Valid.{IsValidList};
+ghost use Rattle.pm_euler.specs.Bounds.{eulerian_choices, eulerian_fronts, eulerian_residues, eulerian_rests};
 ghost use Rattle.pm_objects.specs.Preorder.{ArePreordered};
-ghost use Rattle.pm_euler.specs.Eulerian.{IsEulerianAnswer, SamplesEulerian, codes_by_degree};
+ghost use Rattle.pm_euler.specs.Eulerian.{IsEulerianAnswer, MakesEulerian, SamplesEulerian, codes_by_degree};
+ghost use Rattle.pm_euler.specs.Sampled.{IsFrontOf, IsMade};
 ghost use Rattle.pm_euler.specs.Objects.{halves_of};
 
-use crate::anew::plant_anew;
+use crate::anew::closed_anew;
 use crate::bounds::{eulerian_choice_limits, eulerian_residue_limits};
-use crate::closing::canonical_closure;
+use crate::made::Made;
 use crate::map_profile::profile_of_map;
-use crate::object_order::{halves_in, ranks_by_object};
+use crate::object_order::{halves_in, kinds_of, ranks_by_object};
 use crate::objects::{halves_of, nodes_of, ranges_of};
 use crate::unplanting::unplant;
 use pm_class::{MapClass, Sample};
@@ -24,7 +26,7 @@ use pm_lists::{Bounds, NumList};
 use pm_map::{ClassRefusal, RootedMap};
 use pm_objects::{codes_by_range, objects_of_codes, starts_of, turned_back};
 use pm_planting::{kinds_of_tree, plant_plane};
-use pm_trees::Profile;
+use pm_trees::{Profile, Tree};
 use pm_words::rotate;
 use std::alloc::{AllocError, Global};
 
@@ -74,15 +76,15 @@ impl MapClass for Eulerian {
     }
 
     fn sample_valid(alloc: Global, size: &Profile, choices: &[u64]) -> Result<Sample, AllocError> {
-        let halves = halves_of(alloc, size)?;
-        let objects = size.edges() as usize + 1;
-        let preorder = preorder_of(alloc, &halves, &choices[..objects])?;
-        let last = objects + halves.len();
-        let tree = plant_plane(alloc, &halves, &choices[objects..last], &preorder.objects)?;
-        let anew = plant_anew(alloc, &tree, choices[last])?;
-        let map = canonical_closure(alloc, &anew.tree)?;
-        let residue = residue_of(alloc, size, &halves, &preorder, anew.old_plant)?;
-        Ok(Sample { map, residue })
+        let last = choices.len() - 1;
+        let made = make(alloc, size, &choices[..last])?;
+        let closed = closed_anew(alloc, &made.tree, choices[last])?;
+        let mut residue = made.rest;
+        residue.push(u64::from(closed.old_plant))?;
+        Ok(Sample {
+            map: closed.map,
+            residue: NumList::of(residue),
+        })
     }
 
     fn unsample_valid(
@@ -93,16 +95,9 @@ impl MapClass for Eulerian {
     ) -> Result<NumList, AllocError> {
         // Its contract says that the map is a rooted one; so its tree has as many nodes of each degree as it has vertices.
         let _edges = map.edges();
-        let unplanted = unplant(alloc, map, residue[residue.len() - 1] as u32)?;
-        let kinds = kinds_of_tree(alloc, &unplanted.tree)?;
-        let ranges = ranges_of(alloc, size)?;
-        let halves = halves_in(alloc, &kinds)?;
-        let codes = &residue[1..residue.len() - 1];
-        let objects = objects_of_codes(alloc, &ranges, &halves, codes)?;
-        let ranks = ranks_by_object(alloc, nodes_of(size) as usize, &kinds, &objects)?;
-        let arrangement = turned_back(alloc, &objects, residue[0] as u32)?;
-        let mut choices = code(alloc, &arrangement)?;
-        choices.extend_from_slice(&ranks)?;
+        let last = residue.len() - 1;
+        let unplanted = unplant(alloc, map, residue[last] as u32)?;
+        let mut choices = front_of(alloc, size, &unplanted.tree, &residue[..last])?;
         choices.push(unplanted.free)?;
         Ok(NumList::of(choices))
     }
@@ -130,23 +125,58 @@ fn preorder_of(alloc: Global, halves: &[u32], code: &[u64]) -> Result<Preorder, 
     Ok(Preorder { start, objects })
 }
 
-/// The start, the codes by degree, and the number of the old plant.
-fn residue_of(
+/// The first step: the objects in preorder are planted, and the rest is their start and their codes by degree.
+fn make(alloc: Global, size: &Profile, front: &[u64]) -> Result<Made, AllocError>
+    requires size { IsProfile size.now }
+    requires valid { IsValidList front.now (eulerian_fronts size.now) }
+    ensures { IfOk result (λ made. MakesEulerian size.now front.now made.tree made.rest.items) }
+{
+    let halves = halves_of(alloc, size)?;
+    let objects = size.edges() as usize + 1;
+    let preorder = preorder_of(alloc, &halves, &front[..objects])?;
+    let kinds = kinds_of(alloc, &halves, &front[objects..], &preorder.objects)?;
+    let tree = plant_plane(alloc, &kinds)?;
+    let rest = rest_of(alloc, size, &halves, &preorder)?;
+    Ok(Made { tree, rest })
+}
+
+/// The start and the codes by degree.
+fn rest_of(
     alloc: Global,
     profile: &Profile,
     halves: &[u32],
     preorder: &Preorder,
-    old_plant: u32,
-) -> Result<NumList, AllocError>
+) -> Result<Vec<u64>, AllocError>
     requires halves { halves.now ≡ halves_of profile.now }
     requires few { length preorder.now.objects.items < 2 ^ 32 }
-    ensures { IfOk result (λ residue. residue ≡ preorder.now.start ∷ (codes_by_degree profile.now preorder.now.objects.items ++ old_plant ∷ [])) }
+    ensures { IfOk result (λ rest. rest.items ≡ preorder.now.start ∷ codes_by_degree profile.now preorder.now.objects.items) }
 {
     let ranges = ranges_of(alloc, profile)?;
     let codes = codes_by_range(alloc, &ranges, halves, &preorder.objects)?;
-    let mut residue = Vec::new(alloc);
-    residue.push(u64::from(preorder.start))?;
-    residue.extend_from_slice(&codes)?;
-    residue.push(u64::from(old_plant))?;
-    Ok(NumList::of(residue))
+    let mut rest = Vec::new(alloc);
+    rest.push(u64::from(preorder.start))?;
+    rest.extend_from_slice(&codes)?;
+    Ok(rest)
+}
+
+/// The first step undone: the front that makes this tree and this rest.
+fn front_of(
+    alloc: Global,
+    size: &Profile,
+    tree: &Tree,
+    rest: &[u64],
+) -> Result<Vec<u64>, AllocError>
+    requires size { IsProfile size.now }
+    requires made { IsMade size.now (eulerian_rests size.now) tree.now rest.now }
+    ensures { IfOk result (λ front. IsFrontOf (eulerian_fronts size.now) (MakesEulerian size.now) front.items tree.now rest.now) }
+{
+    let kinds = kinds_of_tree(alloc, tree)?;
+    let ranges = ranges_of(alloc, size)?;
+    let halves = halves_in(alloc, &kinds)?;
+    let objects = objects_of_codes(alloc, &ranges, &halves, &rest[1..])?;
+    let ranks = ranks_by_object(alloc, nodes_of(size) as usize, &kinds, &objects)?;
+    let arrangement = turned_back(alloc, &objects, rest[0] as u32)?;
+    let mut front = code(alloc, &arrangement)?;
+    front.extend_from_slice(&ranks)?;
+    Ok(front)
 }

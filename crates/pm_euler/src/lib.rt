@@ -3,8 +3,8 @@
 
 mod anew;
 mod bounds;
-mod closing;
 mod eulerian;
+mod made;
 mod map_profile;
 mod object_order;
 mod objects;

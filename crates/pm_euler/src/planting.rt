@@ -3,9 +3,9 @@ ghost use Rattle.std.specs.Prelude.{◌≡◌, suc, ◌+◌, ◌*◌, ◌<◌, �
 ghost use Rattle.pm_limits.specs.declared.TheConstants.{MAX_EDGES};
 ghost use Rattle.pm_remy.specs.Tree.{leaves};
 ghost use Rattle.pm_remy.specs.Words.{forks_in};
-ghost use Rattle.pm_euler.specs.Planted.{IsPlanted, shape_objects};
+ghost use Rattle.pm_euler.specs.Planted.{IsPlanted, kinds_of_shape};
 
-use pm_planting::plant_plane;
+use pm_planting::{Kind, plant_plane};
 use pm_remy::{LabelTree, shape};
 use pm_trees::Tree;
 use std::alloc::{AllocError, Global};
@@ -25,26 +25,28 @@ pub(crate) fn plant(alloc: Global, tree: &LabelTree, ranks: &[u64]) -> Result<Tr
     ensures { IfOk result (λ word. IsPlanted tree.now ranks.now word) }
 {
     let nodes = shape(alloc, tree)?;
-    let objects = objects_of_shape(alloc, &nodes, ranks.len() as u32)?;
-    let halves = vec![in alloc; 2u32; ranks.len()]?;
-    let planted = plant_plane(alloc, &halves, ranks, &objects)?;
+    let kinds = kinds_of_shape(alloc, &nodes, ranks)?;
+    let planted = plant_plane(alloc, &kinds)?;
     Ok(planted)
 }
 
-/// The objects of a shape in preorder: the forks are numbered from 0 on, and each leaf is the number of the forks.
-fn objects_of_shape(alloc: Global, nodes: &[bool], forks: u32) -> Result<Vec<u32>, AllocError>
-    requires { forks_in nodes.now < 2 ^ 32 }
-    ensures { IfOk result (λ objects. objects.items ≡ shape_objects forks 0 nodes.now) }
+/// The kinds of the objects of a shape in preorder, with a rank for each fork.
+fn kinds_of_shape(alloc: Global, nodes: &[bool], ranks: &[u64]) -> Result<Vec<Kind>, AllocError>
+    requires { length ranks.now ≡ forks_in nodes.now }
+    ensures { IfOk result (λ kinds. kinds.items ≡ kinds_of_shape nodes.now ranks.now) }
 {
     let mut next = 0;
-    let mut objects = Vec::new(alloc);
+    let mut kinds = Vec::new(alloc);
     'nodes: for node in nodes {
-        if *node {
-            objects.push(next)?;
-            next += 1;
-        } else {
-            objects.push(forks)?;
+        if !*node {
+            kinds.push(Kind::Leaf)?;
+            continue 'nodes;
         }
+        kinds.push(Kind::Node {
+            half: 2,
+            rank: ranks[next],
+        })?;
+        next += 1;
     }
-    Ok(objects)
+    Ok(kinds)
 }

@@ -1,17 +1,18 @@
 //! Quartic maps: each vertex has degree 4.
-ghost use Rattle.std.specs.Prelude.{◌≡◌, ◌↔◌, ◌∷◌, IfOk, IsTrue};
+ghost use Rattle.std.specs.Prelude.{◌≡◌, ◌+◌, ◌↔◌, IfOk, IsTrue};
 ghost use Rattle.pm_limits.specs.declared.TheConstants.{MAX_EDGES};
-ghost use Rattle.pm_lehmer.specs.Lehmer.{code_of, IsArrangementCode};
+ghost use Rattle.pm_lists.specs.Valid.{IsValidList};
 ghost use Rattle.pm_map.specs.ClassRules.{IsQuarticAnswer};
 ghost use Rattle.pm_map.specs.Classes.{IsQuartic};
 ghost use Rattle.pm_map.specs.Rotation.{structure_of};
-ghost use Rattle.pm_remy.specs.Tree.{labels_of};
-ghost use Rattle.pm_euler.specs.Bounds.{quartic_choices, quartic_residues};
-ghost use Rattle.pm_euler.specs.Quartic.{IsQuarticSize, SamplesQuartic};
+ghost use Rattle.pm_objects.specs.Codes.{code_bounds};
+ghost use Rattle.pm_euler.specs.Bounds.{quartic_choices, quartic_fronts, quartic_residues};
+ghost use Rattle.pm_euler.specs.Quartic.{IsQuarticSize, MakesQuartic, SamplesQuartic, quartic_pairs};
+ghost use Rattle.pm_euler.specs.Sampled.{IsFrontOf, IsMade};
 
-use crate::anew::plant_anew;
+use crate::anew::closed_anew;
 use crate::bounds::{limits_of_growth, limits_with_code};
-use crate::closing::canonical_closure;
+use crate::made::Made;
 use crate::planting::plant;
 use crate::shape_reading::shape_and_ranks;
 use crate::unplanting::unplant;
@@ -20,7 +21,8 @@ use pm_lehmer::{arrange, code};
 use pm_limits::MAX_EDGES;
 use pm_lists::{Bounds, NumList};
 use pm_map::{ClassRefusal, Degrees, RootedMap};
-use pm_remy::{LabelTree, grow, labels, tree_of_shape, ungrow};
+use pm_remy::{grow, labels, tree_of_shape, ungrow};
+use pm_trees::Tree;
 use std::alloc::{AllocError, Global};
 
 /// The quartic maps with `n` vertices, for `n` from 1 to half of [`MAX_EDGES`]: plane maps in which each vertex has degree
@@ -74,28 +76,28 @@ impl MapClass for Quartic {
     }
 
     fn sample_valid(alloc: Global, size: &u32, choices: &[u64]) -> Result<Sample, AllocError> {
-        let forks = *size as usize;
-        let tree = grow(alloc, &choices[..forks])?;
-        let blossoming = plant(alloc, &tree, &choices[forks..2 * forks])?;
-        let anew = plant_anew(alloc, &blossoming, choices[2 * forks])?;
-        let map = canonical_closure(alloc, &anew.tree)?;
-        let residue = residue_of(alloc, anew.old_plant, &tree)?;
-        Ok(Sample { map, residue })
+        let last = choices.len() - 1;
+        let made = make(alloc, *size, &choices[..last])?;
+        let closed = closed_anew(alloc, &made.tree, choices[last])?;
+        let mut residue = Vec::new(alloc);
+        residue.push(u64::from(closed.old_plant))?;
+        residue.extend_from_slice(&made.rest)?;
+        Ok(Sample {
+            map: closed.map,
+            residue: NumList::of(residue),
+        })
     }
 
     fn unsample_valid(
         alloc: Global,
-        _size: &u32,
+        size: &u32,
         map: &RootedMap,
         residue: &[u64],
     ) -> Result<NumList, AllocError> {
-        let mut choices = Vec::with_capacity(alloc, map.edges() as usize + 1)?;
+        // Its contract says that the map is a rooted one; so its tree has as many nodes of each degree as it has vertices.
+        let _edges = map.edges();
         let unplanted = unplant(alloc, map, residue[0] as u32)?;
-        let read = shape_and_ranks(alloc, &unplanted.tree)?;
-        let labels = arrange(alloc, &residue[1..])?;
-        let tree = tree_of_shape(alloc, &read.nodes, &labels)?;
-        choices.extend_from_slice(&ungrow(alloc, &tree)?)?;
-        choices.extend_from_slice(&read.ranks)?;
+        let mut choices = front_of(alloc, *size, &unplanted.tree, &residue[1..])?;
         choices.push(unplanted.free)?;
         Ok(NumList::of(choices))
     }
@@ -114,15 +116,30 @@ fn limits_of_choices(alloc: Global, size: u32) -> Result<Vec<u64>, AllocError>
     Ok(limits)
 }
 
-/// The number of the old plant, and the arrangement code of the labels from left to right.
-fn residue_of(alloc: Global, old_plant: u32, tree: &LabelTree) -> Result<NumList, AllocError>
-    ensures residue { IfOk result (λ residue. residue ≡ old_plant ∷ code_of (labels_of tree.now)) }
-    ensures is_code { IfOk result (λ _. IsArrangementCode (code_of (labels_of tree.now))) }
+/// The first step: the front grows a binary tree, which is planted, and the rest is the code of its labels.
+fn make(alloc: Global, size: u32, front: &[u64]) -> Result<Made, AllocError>
+    requires size { IsQuarticSize size }
+    requires valid { IsValidList front.now (quartic_fronts size) }
+    ensures { IfOk result (λ made. MakesQuartic size front.now made.tree made.rest.items) }
 {
-    let leaf_labels = labels(alloc, tree)?;
-    let label_code = code(alloc, &leaf_labels)?;
-    let mut residue = Vec::new(alloc);
-    residue.push(u64::from(old_plant))?;
-    residue.extend_from_slice(&label_code)?;
-    Ok(NumList::of(residue))
+    let forks = size as usize;
+    let grown = grow(alloc, &front[..forks])?;
+    let tree = plant(alloc, &grown, &front[forks..])?;
+    let leaf_labels = labels(alloc, &grown)?;
+    let rest = code(alloc, &leaf_labels)?;
+    Ok(Made { tree, rest })
+}
+
+/// The first step undone: the front that makes this tree and this rest.
+fn front_of(alloc: Global, size: u32, tree: &Tree, rest: &[u64]) -> Result<Vec<u64>, AllocError>
+    requires size { IsQuarticSize size }
+    requires made { IsMade (quartic_pairs size) (code_bounds (size + 1)) tree.now rest.now }
+    ensures { IfOk result (λ front. IsFrontOf (quartic_fronts size) (MakesQuartic size) front.items tree.now rest.now) }
+{
+    let read = shape_and_ranks(alloc, tree)?;
+    let labels = arrange(alloc, rest)?;
+    let labelled = tree_of_shape(alloc, &read.nodes, &labels)?;
+    let mut front = ungrow(alloc, &labelled)?;
+    front.extend_from_slice(&read.ranks)?;
+    Ok(front)
 }

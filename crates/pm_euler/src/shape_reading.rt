@@ -1,8 +1,12 @@
 //! From a blossoming tree whose nodes all have degree 4 back to the binary tree and the bud patterns.
-ghost use Rattle.std.specs.Prelude.{◌≡◌, ℕ, Bool, List, IfOk};
-ghost use Rattle.pm_euler.specs.steps.ShapeRead.{IsPlantedOf, nodes_in, ranks_in};
+ghost use Rattle.std.specs.Prelude.{◌≡◌, ℕ, IfOk, length};
+ghost use Rattle.pm_planting.specs.Kinds.{IsWordOfKinds};
+ghost use Rattle.pm_remy.specs.Words.{forks_in};
+ghost use Rattle.pm_trees.specs.Blossoming.{IsBlossoming};
+ghost use Rattle.pm_trees.specs.Degrees.{nodes_of};
+ghost use Rattle.pm_euler.specs.Planted.{kinds_of_shape};
 
-use pm_planting::kinds_of_tree;
+use pm_planting::{Kind, kinds_of_tree};
 use pm_trees::Tree;
 use std::alloc::{AllocError, Global};
 
@@ -16,29 +20,21 @@ pub(crate) struct ShapeAndRanks {
 
 /// The shape and the ranks of which the tree is planted.
 pub(crate) fn shape_and_ranks(alloc: Global, tree: &Tree) -> Result<ShapeAndRanks, AllocError>
-    requires { (shape : List Bool) × ((ranks : List ℕ) × IsPlantedOf tree.now shape ranks) }
-    ensures { IfOk result (λ read. IsPlantedOf tree.now read.nodes.items read.ranks.items) }
+    requires blossoming { IsBlossoming tree.now }
+    requires degrees { (degree : ℕ) → (degree ≡ 4 → ⊥) → nodes_of tree.now degree ≡ 0 }
+    ensures as_many { IfOk result (λ read. length read.ranks.items ≡ forks_in read.nodes.items) }
+    ensures planted { IfOk result (λ read. IsWordOfKinds (kinds_of_shape read.nodes.items read.ranks.items) tree.now) }
 {
     let kinds = kinds_of_tree(alloc, tree)?;
-    let nodes = nodes_in(alloc, &kinds)?;
-    let ranks = ranks_in(alloc, &kinds)?;
+    let mut nodes = Vec::new(alloc);
+    let mut ranks = Vec::new(alloc);
+    'kinds: for kind in &kinds {
+        let Kind::Node { rank, .. } = *kind else {
+            nodes.push(false)?;
+            continue 'kinds;
+        };
+        nodes.push(true)?;
+        ranks.push(rank)?;
+    }
     Ok(ShapeAndRanks { nodes, ranks })
-}
-
-/// Which of these kinds are those of nodes.
-fn nodes_in(alloc: Global, kinds: &[(u32, u64)]) -> Result<Vec<bool>, AllocError>
-    ensures { IfOk result (λ nodes. nodes.items ≡ nodes_in kinds.now) }
-{
-    kinds.iter().map(|kind| 0 < kind.0).collect(alloc)
-}
-
-/// The ranks of the nodes of these kinds.
-fn ranks_in(alloc: Global, kinds: &[(u32, u64)]) -> Result<Vec<u64>, AllocError>
-    ensures { IfOk result (λ ranks. ranks.items ≡ ranks_in kinds.now) }
-{
-    kinds
-        .iter()
-        .filter(|kind| 0 < kind.0)
-        .map(|kind| kind.1)
-        .collect(alloc)
 }

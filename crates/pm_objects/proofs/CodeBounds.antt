@@ -59,6 +59,12 @@ valid_append (value ∷ values) more (bound ∷ bounds) others first second =
     valid_cons value bound (values ++ more) (bounds ++ others) (first.below 0 (omega arith))
     (valid_append values more bounds others (record { as_long = omega arith; below = λ k less. first.below (suc k) (omega arith) }) second)
 
+pub valid_nothing : IsValidList [] []
+valid_nothing = record { as_long = refl; below = λ k less. absurd (omega arith) }
+
+pub valid_push : (values bounds : List ℕ) (value bound : ℕ) → IsValidList values bounds → value < bound → IsValidList (values ++ value ∷ []) (bounds ++ bound ∷ [])
+valid_push values bounds value bound valid low = valid_append values (value ∷ []) bounds (bound ∷ []) valid (valid_cons value bound [] [] low valid_nothing)
+
 -- a code is valid for the bounds of its length
 pub valid_code : (n : ℕ) (entries : List ℕ) → length entries ≡ n → IsValidList (code_of entries) (code_bounds n)
 valid_code n entries long =

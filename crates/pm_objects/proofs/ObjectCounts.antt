@@ -1,16 +1,16 @@
 -- The objects of ranges: their arities, the sum and number of these, the word of an arrangement, and how many objects have
 -- which arity.
-use Rattle.std.proofs.Common.{◌≡◌, ◌⊎◌, ℕ, zero, suc, ◌+◌, ◌-◌, ◌*◌, ◌<◌, ◌≤◌, Bool, cond, inl, inr, List, [], ◌∷◌, length, map, get_or, replicate, take, take_all, refl, ap, sym, ◌∙◌, subst, arith, length-append, append-nil, ℤ, pos, negsuc, ◌+ℤ◌, neg_ℤ, ◌≤ℤ◌, eq-eqb, ne_eqb}
+use Rattle.std.proofs.Common.{◌≡◌, ◌⊎◌, ℕ, zero, suc, ◌+◌, ◌-◌, ◌*◌, ◌<◌, ◌≤◌, Bool, cond, inl, inr, List, [], ◌∷◌, length, map, replicate, take, take_all, refl, ap, sym, ◌∙◌, arith, length-append, append-nil, pos, ◌+ℤ◌, neg_ℤ, eq-eqb, ne_eqb}
 use Rattle.std.specs.Prelude.{sum, count_by, ◌==◌, ◌≢◌}
 use Rattle.std.specs.List.{sum_by, range_with_len}
 use Rattle.std.proofs.lemmas.Int.{ints}
 use Rattle.std.proofs.lemmas.Bool.{cases_eq, cases_order}
-use Rattle.std.proofs.lemmas.List.{length-map, length-replicate, get_or-map}
+use Rattle.std.proofs.lemmas.List.{length-map, length-replicate}
 use Rattle.std.proofs.lemmas.List.FromFn.{length-range_with_len, get_or-range_with_len}
 use Rattle.std.proofs.lemmas.List.Folds.{sum_by-replicate}
 use Rattle.std.proofs.lemmas.List.Sums.{sum_by-append, sum_by-cons, sum-map}
 use Rattle.pm_perm.specs.Permutation.{IsPermutationList}
-use Rattle.pm_words.specs.Word.{IsWord, sum_of, turned}
+use Rattle.pm_words.specs.Word.{sum_of, turned}
 use Rattle.pm_words.specs.Plane.{letter_of}
 use Rattle.pm_words.proofs.PlaneWords.{letter_of-is, sum_of-cons}
 use Rattle.pm_objects.specs.Objects.{AreApart, range_at, arities_of, nodes_of_ranges, arity_of, letters_of}
@@ -30,18 +30,6 @@ nodes_by_ranges (r ∷ ranges) =
 
 pub nodes_counted : (ranges : List (ℕ × ℕ)) (i nodes : ℕ) → length ranges ≤ i → nodes ≡ sum_by (λ (r : ℕ × ℕ). r.1) (take i ranges) → nodes ≡ nodes_of_ranges ranges
 nodes_counted ranges i nodes past e = e ∙ ap (sum_by (λ (r : ℕ × ℕ). r.1)) (take_all i ranges past) ∙ sym (nodes_by_ranges ranges)
-
--- a letter is at least -1, and the children that it tells less one
-letter_least : (many : ℕ) → negsuc 0 ≤ℤ letter_of many
-letter_least zero = omega (arith, ints)
-letter_least (suc more) = omega (arith, ints)
-
-pub letters_word : (arities objects : List ℕ) → IsWord (letters_of arities objects)
-letters_word arities objects = record {
-  least = λ place inside.
-      let within : place < length objects = (let long = length-map objects (λ object. letter_of (arity_of arities object)) in omega arith) in
-      subst (λ (letter : ℤ). negsuc 0 ≤ℤ letter) (sym (get_or-map (λ object. letter_of (arity_of arities object)) objects place 0 (pos 0) within)) (letter_least (arity_of arities (get_or objects place 0)));
-}
 
 sum_of-letters : (arities objects : List ℕ) → sum_of (letters_of arities objects) +ℤ pos (length objects) ≡ pos (sum_by (arity_of arities) objects)
 sum_of-letters arities [] = omega (arith, ints)

@@ -1,5 +1,6 @@
 -- The objects in preorder: there are some, and for one plane tree they are one list.
 use Rattle.std.proofs.Common.{◌≡◌, ℕ, ◌+◌, ◌<◌, ◌≤◌, inl, inr, List, ◌++◌, ℤ, pos, neg_ℤ, slice_index, length, take, drop, refl, sym, ◌∙◌, ap, ap₂, subst, arith}
+use Rattle.pm_words.proofs.PlaneWords.{letters-word}
 use Rattle.std.specs.Prelude.{sum}
 use Rattle.std.proofs.lemmas.Bool.{cases_order}
 use Rattle.std.proofs.lemmas.Int.{ints}
@@ -12,7 +13,7 @@ use Rattle.pm_words.proofs.Cycle.{good_starts_exist}
 use Rattle.pm_words.proofs.Heights.{IsLow, IsLow-from_good}
 use Rattle.pm_objects.specs.Objects.{AreApart, arities_of, arity_of, letters_of, nodes_of_ranges}
 use Rattle.pm_objects.specs.Preorder.{ArePreordered}
-use Rattle.pm_objects.proofs.ObjectCounts.{HasObjects, arranged_objects, letters_sum, letters_word}
+use Rattle.pm_objects.proofs.ObjectCounts.{HasObjects, arranged_objects, letters_sum}
 use Rattle.pm_objects.proofs.ObjectsFound.{length-turned}
 
 -- a word that sums to -1 has one good start
@@ -90,7 +91,7 @@ preorder_exists goal arities code some few coded is_code =
     let all = length-arrangement code arranged.0 arranged.1 in
     let letters : List ℤ = letters_of arities arranged.0 in
     let total : sum_of letters ≡ neg_ℤ (pos goal) = letters_sum goal arities arranged.0 arranged.1.is_permutation (omega (arith, few, all)) (omega (arith, coded, all)) in
-    let found : (starts : List ℕ) × IsGoodStarts goal letters starts = good_starts_exist goal letters some (letters_word arities arranged.0) total in
+    let found : (starts : List ℕ) × IsGoodStarts goal letters starts = good_starts_exist goal letters some (letters-word (arity_of arities) arranged.0) total in
     let start : ℕ = slice_index found.0 0 in
     record {
       start = start;

@@ -1,5 +1,5 @@
 -- The codes by range: an arrangement code for each arity.
-use Rattle.std.proofs.Common.{◌≡◌, ℕ, zero, suc, ◌<◌, List, [], ◌∷◌, ◌++◌, length, refl, ap, ap₂, sym, ◌∙◌, subst, arith, append_assoc}
+use Rattle.std.proofs.Common.{drop_at, take_at, drop, take, ◌≡◌, ℕ, zero, suc, ◌<◌, List, [], ◌∷◌, ◌++◌, length, refl, ap, ap₂, sym, ◌∙◌, subst, arith, append_assoc}
 use Rattle.std.specs.Prelude.{flat_map}
 use Rattle.pm_lists.specs.Valid.{IsValidList}
 use Rattle.pm_lehmer.specs.Lehmer.{IsArrangementCode}
@@ -35,6 +35,31 @@ valid_split (value ∷ values) (bound ∷ bounds) others valid =
       front_is_valid = valid_cons value bound s.front bounds (valid.below 0 (omega arith)) s.front_is_valid;
       rest_is_valid = s.rest_is_valid;
     }
+
+pub valid_parts : (n : ℕ) (values bounds others : List ℕ) → length bounds ≡ n → IsValidList values (bounds ++ others) → IsValidList (take n values) bounds × IsValidList (drop n values) others
+valid_parts n values bounds others long valid =
+    let s = valid_split values bounds others valid in
+    let all = s.front_is_valid.as_long ∙ long in (
+      subst (λ (xs : List ℕ). IsValidList xs bounds) (sym (ap (take n) (sym s.whole) ∙ take_at s.front s.rest n all)) s.front_is_valid,
+      subst (λ (xs : List ℕ). IsValidList xs others) (sym (ap (drop n) (sym s.whole) ∙ drop_at s.front s.rest n all)) s.rest_is_valid,
+    )
+
+-- and one with a bound behind
+pub record HasLast (values bounds : List ℕ) (bound : ℕ) : Type 0 where
+  pub front : List ℕ
+  pub last : ℕ
+  pub whole : values ≡ front ++ last ∷ []
+  pub valid : IsValidList front bounds
+  pub low : last < bound
+
+pub valid_last : (values bounds : List ℕ) (bound : ℕ) → IsValidList values (bounds ++ bound ∷ []) → HasLast values bounds bound
+valid_last values bounds bound valid =
+    let s = valid_split values bounds (bound ∷ []) valid in
+    ends s.front s.rest s.whole s.front_is_valid s.rest_is_valid where
+      ends : (front rest : List ℕ) → front ++ rest ≡ values → IsValidList front bounds → IsValidList rest (bound ∷ []) → HasLast values bounds bound
+      ends front (last ∷ []) e a b = record { front = front; last = last; whole = sym e; valid = a; low = b.below 0 (omega arith) }
+      ends front [] e a b = absurd (let l = b.as_long in omega (arith, l))
+      ends front (last ∷ next ∷ more) e a b = absurd (let l = b.as_long in omega (arith, l))
 
 -- a list that is valid for the bounds of a code is one
 pub record IsCodeOfLength (n : ℕ) (code : List ℕ) : Type 0 where

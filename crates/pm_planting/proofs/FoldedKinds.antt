@@ -4,15 +4,18 @@ use Rattle.std.proofs.lemmas.List.Elements.{All-head, All-tail}
 use Rattle.std.proofs.lemmas.List.Sums.{count_by-le-length}
 use Rattle.pm_trees.specs.declared.letters.TheConstants.{LEAF, BUD, OPEN, CLOSE}
 use Rattle.pm_trees.specs.declared.patterns.TheConstants.{SLOT}
-use Rattle.pm_trees.specs.BudPattern.{IsPattern, HasRank}
+use Rattle.pm_trees.specs.BudPattern.{IsPattern}
 use Rattle.pm_trees.proofs.Tally.{tally, tally_is, tally_yes, tally_no}
 use Rattle.pm_planting.specs.steps.Folded.{front_of, behind, fold_letter, folded, AreKindsAlong}
 use Rattle.pm_planting.specs.steps.Folded.AreKindsAlong.{ended, a_leaf, a_node, no_object}
-use Rattle.pm_planting.specs.Kinds.{AreSides, IsWordOfKinds}
+use Rattle.pm_planting.specs.Kinds.{AreSides, HasKind, IsWordOfKinds, half_of}
 use Rattle.pm_planting.specs.Kinds.AreSides.{none, leaf, node}
 use Rattle.pm_planting.specs.Kinds.{filled}
 use Rattle.pm_planting.proofs.FilledRows.{filled_bud, filled_slot}
-use Rattle.pm_planting.proofs.SideTexts.{same_push}
+use Rattle.pm_planting.specs.declared.kind.Kind.{Kind}
+use Rattle.pm_planting.specs.declared.kind.Kind.TheVariants.{Leaf}
+use Rattle.pm_planting.proofs.KindPatterns.{kind_pattern}
+use Rattle.pm_planting.proofs.RootNodes.{root_node}
 
 pub folded_open : (x : ℕ) (entries : List ℕ) → x ≡ OPEN → fold_letter x entries ≡ SLOT ∷ behind entries
 folded_open x entries e = rw (eq-eqb x OPEN e) refl
@@ -45,22 +48,22 @@ front_whole (x ∷ pattern) all =
     f ∙ ap (λ (xs : List ℕ). x ∷ xs) h
 
 -- before any text, this one is so many entries more, and has objects of these kinds
-record IsRead (text entries : List ℕ) (kinds : List (ℕ × ℕ)) : Type 0 where
+record IsRead (text entries : List ℕ) (kinds : List Kind) : Type 0 where
   folds : (rest : List ℕ) → folded (text ++ rest) ≡ entries ++ folded rest
-  along : (rest : List ℕ) (others : List (ℕ × ℕ)) → AreKindsAlong rest others → AreKindsAlong (text ++ rest) (kinds ++ others)
+  along : (rest : List ℕ) (others : List Kind) → AreKindsAlong rest others → AreKindsAlong (text ++ rest) (kinds ++ others)
 
-read_leaf : IsRead (LEAF ∷ []) (SLOT ∷ []) ((0, 0) ∷ [])
+read_leaf : IsRead (LEAF ∷ []) (SLOT ∷ []) (Leaf ∷ [])
 read_leaf = record {
   folds = λ rest. folded_leaf LEAF (folded rest) (λ e. omega (arith, e)) (λ e. omega (arith, e)) (λ e. omega (arith, e));
   along = λ rest others h. a_leaf LEAF rest others refl h;
 }
 
-read_node : (half rank : ℕ) (text pattern : List ℕ) (kinds : List (ℕ × ℕ)) → HasRank half pattern rank → IsRead text pattern kinds → IsRead (OPEN ∷ text ++ CLOSE ∷ []) (SLOT ∷ []) ((half, rank) ∷ kinds)
-read_node half rank text pattern kinds p r = record {
-  folds = λ rest. folded_open OPEN (folded ((text ++ CLOSE ∷ []) ++ rest)) refl ∙ ap (λ (xs : List ℕ). SLOT ∷ xs) (ap behind (inside rest) ∙ (front_here pattern (folded rest) p.is_pattern.letters).1);
+read_node : (kind : Kind) (text pattern : List ℕ) (kinds : List Kind) → HasKind kind pattern → IsRead text pattern kinds → IsRead (OPEN ∷ text ++ CLOSE ∷ []) (SLOT ∷ []) (kind ∷ kinds)
+read_node kind text pattern kinds p r = record {
+  folds = λ rest. folded_open OPEN (folded ((text ++ CLOSE ∷ []) ++ rest)) refl ∙ ap (λ (xs : List ℕ). SLOT ∷ xs) (ap behind (inside rest) ∙ (front_here pattern (folded rest) (kind_pattern kind pattern p).letters).1);
   along = λ rest others h.
-      a_node OPEN half rank ((text ++ CLOSE ∷ []) ++ rest) (kinds ++ others) refl
-      (subst (λ (xs : List ℕ). HasRank half xs rank) (sym (ap front_of (inside rest) ∙ (front_here pattern (folded rest) p.is_pattern.letters).0)) p)
+      a_node OPEN kind ((text ++ CLOSE ∷ []) ++ rest) (kinds ++ others) refl
+      (subst (HasKind kind) (sym (ap front_of (inside rest) ∙ (front_here pattern (folded rest) (kind_pattern kind pattern p).letters).0)) p)
       (subst (λ (xs : List ℕ). AreKindsAlong xs (kinds ++ others)) (sym (append_assoc text (CLOSE ∷ []) rest))
       (r.along (CLOSE ∷ rest) others (no_object CLOSE rest others (λ e. omega (arith, e)) (λ e. omega (arith, e)) h)));
 } where
@@ -68,12 +71,12 @@ read_node half rank text pattern kinds p r = record {
   inside rest = ap folded (append_assoc text (CLOSE ∷ []) rest) ∙ r.folds (CLOSE ∷ rest) ∙ ap (λ (xs : List ℕ). pattern ++ xs) (folded_close CLOSE (folded rest) refl)
 
 -- texts side by side, each one slot
-data AreReadSides : List (List ℕ) → List (ℕ × ℕ) → Type 0 where
+data AreReadSides : List (List ℕ) → List Kind → Type 0 where
   no_sides : AreReadSides [] []
-  one_side : (text : List ℕ) (texts : List (List ℕ)) (kinds others : List (ℕ × ℕ)) → IsRead text (SLOT ∷ []) kinds → AreReadSides texts others → AreReadSides (text ∷ texts) (kinds ++ others)
+  one_side : (text : List ℕ) (texts : List (List ℕ)) (kinds others : List Kind) → IsRead text (SLOT ∷ []) kinds → AreReadSides texts others → AreReadSides (text ∷ texts) (kinds ++ others)
 
-read_slot : (x : ℕ) (pattern : List ℕ) (texts : List (List ℕ)) (kinds : List (ℕ × ℕ)) → x ≡ SLOT → length texts + tally BUD (x ∷ pattern) ≡ length (x ∷ pattern) → AreReadSides texts kinds
-    → ((later : List (List ℕ)) (others : List (ℕ × ℕ)) → length later + tally BUD pattern ≡ length pattern → AreReadSides later others → IsRead (filled pattern later) pattern others) → IsRead (filled (x ∷ pattern) texts) (x ∷ pattern) kinds
+read_slot : (x : ℕ) (pattern : List ℕ) (texts : List (List ℕ)) (kinds : List Kind) → x ≡ SLOT → length texts + tally BUD (x ∷ pattern) ≡ length (x ∷ pattern) → AreReadSides texts kinds
+    → ((later : List (List ℕ)) (others : List Kind) → length later + tally BUD pattern ≡ length pattern → AreReadSides later others → IsRead (filled pattern later) pattern others) → IsRead (filled (x ∷ pattern) texts) (x ∷ pattern) kinds
 read_slot x pattern _ _ slot many no_sides rest =
     absurd (
     let t = tally_no BUD x pattern (λ e. omega (arith, e, slot)) in
@@ -94,7 +97,7 @@ read_slot x pattern _ _ slot many (one_side text texts kinds others h k) rest =
           (subst (AreKindsAlong (text ++ (filled pattern texts ++ more))) (sym (append_assoc kinds others ks)) (h.along (filled pattern texts ++ more) (others ++ ks) (r.along more ks a))));
     }
 
-read_filled : (pattern : List ℕ) (texts : List (List ℕ)) (kinds : List (ℕ × ℕ)) → All (λ x. (x ≡ BUD) ⊎ (x ≡ SLOT)) pattern → length texts + tally BUD pattern ≡ length pattern → AreReadSides texts kinds → IsRead (filled pattern texts) pattern kinds
+read_filled : (pattern : List ℕ) (texts : List (List ℕ)) (kinds : List Kind) → All (λ x. (x ≡ BUD) ⊎ (x ≡ SLOT)) pattern → length texts + tally BUD pattern ≡ length pattern → AreReadSides texts kinds → IsRead (filled pattern texts) pattern kinds
 read_filled [] _ _ all many no_sides = record { folds = λ rest. refl; along = λ rest others h. h }
 read_filled [] _ _ all many (one_side text texts kinds others h k) = absurd (omega (arith, many))
 read_filled (x ∷ pattern) texts kinds all many sides = elim (All-head (λ x. (x ≡ BUD) ⊎ (x ≡ SLOT)) x pattern all) [
@@ -111,48 +114,36 @@ read_filled (x ∷ pattern) texts kinds all many sides = elim (All-head (λ x. (
   | inr slot ↦ read_slot x pattern texts kinds slot many sides (λ later others n k. read_filled pattern later others (All-tail (λ x. (x ≡ BUD) ⊎ (x ≡ SLOT)) x pattern all) n k)
 ]
 
-read_inside : (half : ℕ) (kinds : List (ℕ × ℕ)) (pattern : List ℕ) (sides : List (List ℕ)) → IsPattern half pattern → length sides ≡ half → AreReadSides sides kinds → IsRead (filled pattern sides) pattern kinds
+read_inside : (half : ℕ) (kinds : List Kind) (pattern : List ℕ) (sides : List (List ℕ)) → IsPattern half pattern → length sides ≡ half → AreReadSides sides kinds → IsRead (filled pattern sides) pattern kinds
 read_inside half kinds pattern sides p l k =
     read_filled pattern sides kinds p.letters (let t = tally_is BUD pattern in let a = p.as_long in let b = p.budded in omega (arith, t, a, b, l)) k
 
-read_sides : (kinds : List (ℕ × ℕ)) (texts : List (List ℕ)) → AreSides kinds texts → AreReadSides texts kinds
+read_sides : (kinds : List Kind) (texts : List (List ℕ)) → AreSides kinds texts → AreReadSides texts kinds
 read_sides _ _ none = no_sides
-read_sides _ _ (leaf later texts h) = one_side (LEAF ∷ []) texts ((0, 0) ∷ []) later read_leaf (read_sides later texts h)
-read_sides _ _ (node half rank under later pattern sides texts s p h l k) =
-    one_side (OPEN ∷ filled pattern sides ++ CLOSE ∷ []) texts ((half, rank) ∷ under) later
-    (read_node half rank (filled pattern sides) pattern under p (read_inside half under pattern sides p.is_pattern l (read_sides under sides h))) (read_sides later texts k)
+read_sides _ _ (leaf later texts h) = one_side (LEAF ∷ []) texts (Leaf ∷ []) later read_leaf (read_sides later texts h)
+read_sides _ _ (node kind under later pattern sides texts p h l k) =
+    one_side (OPEN ∷ filled pattern sides ++ CLOSE ∷ []) texts (kind ∷ under) later
+    (read_node kind (filled pattern sides) pattern under p (read_inside (half_of kind) under pattern sides (kind_pattern kind pattern p) l (read_sides under sides h))) (read_sides later texts k)
 
 -- the root node of a tree, and the kinds of the other objects
-pub record IsReadRoot (kinds : List (ℕ × ℕ)) (word : List ℕ) : Type 0 where
-  pub half : ℕ
-  pub rank : ℕ
-  pub below : List (ℕ × ℕ)
-  pub kinds_are : kinds ≡ (half, rank) ∷ below
-  pub has_rank : HasRank half (front_of (folded word)) rank
+pub record IsReadRoot (kinds : List Kind) (word : List ℕ) : Type 0 where
+  pub kind : Kind
+  pub below : List Kind
+  pub kinds_are : kinds ≡ kind ∷ below
+  pub has_kind : HasKind kind (front_of (folded word))
   pub along : AreKindsAlong word below
 
-root_of : (kinds : List (ℕ × ℕ)) (texts : List (List ℕ)) (word : List ℕ) → AreSides kinds texts → texts ≡ (OPEN ∷ word ++ CLOSE ∷ []) ∷ [] → IsReadRoot kinds word
-root_of _ _ word none e = absurd cc
-root_of _ _ word (leaf later texts h) e = absurd (let a : LEAF ≡ OPEN = cc in omega (arith, a))
-root_of _ _ word (node half rank under later pattern sides texts s p h l k) e =
-    let t : filled pattern sides ++ CLOSE ∷ [] ≡ word ++ CLOSE ∷ [] = cc in
-    let w : filled pattern sides ≡ word = (same_push (filled pattern sides) word CLOSE CLOSE t).lists in
-    let r = read_inside half under pattern sides p.is_pattern l (read_sides under sides h) in
-    let alone : later ≡ [] = no_kinds later texts k cc in
-    let letters : filled pattern sides ++ [] ≡ word = append-nil (filled pattern sides) ∙ w in
-    let entries : folded word ≡ pattern = ap folded (sym letters) ∙ r.folds [] ∙ append-nil pattern in
+pub read_root : (kinds : List Kind) (word : List ℕ) → IsWordOfKinds kinds word → IsReadRoot kinds word
+read_root kinds word h =
+    let n = root_node kinds word h in
+    let p = kind_pattern n.kind n.pattern n.has_kind in
+    let r = read_inside (half_of n.kind) n.below n.pattern n.sides p n.counted (read_sides n.below n.sides n.are_sides) in
+    let letters : filled n.pattern n.sides ++ [] ≡ word = append-nil (filled n.pattern n.sides) ∙ n.word_is in
+    let entries : folded word ≡ n.pattern = ap folded (sym letters) ∙ r.folds [] ∙ append-nil n.pattern in
     record {
-      half = half;
-      rank = rank;
-      below = under ++ later;
-      kinds_are = refl;
-      has_rank = subst (λ (xs : List ℕ). HasRank half xs rank) (sym (ap front_of entries ∙ front_whole pattern p.is_pattern.letters)) p;
-      along = subst (λ (ks : List (ℕ × ℕ)). AreKindsAlong word (under ++ ks)) (sym alone) (subst (λ (xs : List ℕ). AreKindsAlong xs (under ++ [])) letters (r.along [] [] ended));
-    } where
-      no_kinds : (kinds : List (ℕ × ℕ)) (texts : List (List ℕ)) → AreSides kinds texts → texts ≡ [] → kinds ≡ []
-      no_kinds _ _ none e = refl
-      no_kinds _ _ (leaf later texts h) e = absurd cc
-      no_kinds _ _ (node half rank under later pattern sides texts s p h l k) e = absurd cc
-
-pub read_root : (kinds : List (ℕ × ℕ)) (word : List ℕ) → IsWordOfKinds kinds word → IsReadRoot kinds word
-read_root kinds word h = root_of kinds ((OPEN ∷ word ++ CLOSE ∷ []) ∷ []) word h refl
+      kind = n.kind;
+      below = n.below;
+      kinds_are = n.kinds_are;
+      has_kind = subst (HasKind n.kind) (sym (ap front_of entries ∙ front_whole n.pattern p.letters)) n.has_kind;
+      along = subst (AreKindsAlong word) (append-nil n.below) (subst (λ (xs : List ℕ). AreKindsAlong xs (n.below ++ [])) letters (r.along [] [] ended));
+    }

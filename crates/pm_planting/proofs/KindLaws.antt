@@ -3,7 +3,7 @@
 use Rattle.std.proofs.Common.{◌≡◌, ℕ, zero, suc, ◌-◌, ◌*◌, ◌/◌, ◌<◌, ◌≤◌, ◌==◌, cond, inl, inr, List, [], ◌∷◌, get_or, length, All, count_by, refl, ap, sym, ◌∙◌, arith, eq-eqb, ne_eqb}
 use Rattle.std.proofs.lemmas.Bool.{cases_eq}
 use Rattle.std.proofs.lemmas.List.{length-map}
-use Rattle.std.proofs.lemmas.List.Elements.{All-head, All-tail}
+use Rattle.std.proofs.lemmas.List.Elements.{All-head, All-map, All-tail}
 use Rattle.std.proofs.lemmas.List.Sums.{sum_by-cons}
 use Rattle.pm_limits.specs.declared.TheConstants.{MAX_EDGES, MAX_DEGREE}
 use Rattle.pm_trees.specs.Word.{contour}
@@ -12,14 +12,12 @@ use Rattle.pm_trees.specs.Degrees.{nodes_of}
 use Rattle.pm_trees.proofs.Tally.{tally_is}
 use Rattle.pm_trees.proofs.Weights.{weight}
 use Rattle.pm_trees.proofs.Rings.{of_degree, of_degree_is, nodes_weight, bad, bad_is}
-use Rattle.pm_planting.specs.Kinds.{IsWordOfKinds}
+use Rattle.pm_planting.specs.Kinds.{IsKind, IsWordOfKinds, half_of, halves_in}
+use Rattle.pm_planting.specs.declared.kind.Kind.{Kind}
+use Rattle.pm_planting.specs.declared.kind.Kind.TheVariants.{Leaf, Node}
 use Rattle.pm_planting.proofs.KindSides.{kinds_root}
 use Rattle.pm_planting.proofs.Rows.{object_value, object_value_leaf, object_value_node, total, total-nil, total-cons}
 use Rattle.pm_planting.proofs.RootRows.{root_length, root_leaves, root_weight, root_blossoming}
-use Rattle.pm_planting.proofs.SideReading.{halves_in}
-
-pub same_pair : (p q : ℕ × ℕ) → p.0 ≡ q.0 → p.1 ≡ q.1 → p ≡ q
-same_pair p q first second = ap {B = ℕ × ℕ} (λ a. (a, p.1)) first ∙ ap {B = ℕ × ℕ} (λ b. (q.0, b)) second
 
 -- 1 at the nodes of the degree
 object_of_degree : (half object_half : ℕ) → 0 < half → object_value (of_degree (2 * half)) object_half ≡ cond (object_half == half) 1 0
@@ -71,11 +69,18 @@ object_bad (suc buds) l =
     let b = bad_is (2 * suc buds) buds in
     omega (arith, a, b, l)
 
-module _ (kinds : List (ℕ × ℕ)) (word : List ℕ) (h : IsWordOfKinds kinds word) where
+pub half_few : (kind : Kind) → IsKind kind → half_of kind ≤ MAX_DEGREE / 2
+half_few Leaf is = omega arith
+half_few (Node half rank) is = is.0.few
+
+pub halves_few : (kinds : List Kind) → All IsKind kinds → All (λ half. half ≤ MAX_DEGREE / 2) (halves_in kinds)
+halves_few kinds each = All-map (λ half. half ≤ MAX_DEGREE / 2) half_of kinds (λ k other less. half_few (get_or kinds k other) (each k other less))
+
+module _ (kinds : List Kind) (word : List ℕ) (h : IsWordOfKinds kinds word) where
   pub kinds_length : suc (length word) ≡ 2 * (length kinds - 1)
   kinds_length =
       let l = root_length (halves_in kinds) word (kinds_root kinds word h) in
-      let long = length-map kinds (λ (kind : ℕ × ℕ). kind.0) in
+      let long = length-map kinds half_of in
       omega (arith, l, long)
 
   -- a sum over the nodes
@@ -95,5 +100,5 @@ module _ (kinds : List (ℕ × ℕ)) (word : List ℕ) (h : IsWordOfKinds kinds 
   pub kinds_blossoming : All (λ half. half ≤ MAX_DEGREE / 2) (halves_in kinds) → length kinds ≤ suc MAX_EDGES → IsBlossoming word
   kinds_blossoming within few =
       let none = total_none bad (halves_in kinds) (λ k other less. object_bad (get_or (halves_in kinds) k other) (within k other less)) in
-      let long = length-map kinds (λ (kind : ℕ × ℕ). kind.0) in
+      let long = length-map kinds half_of in
       root_blossoming (halves_in kinds) word (kinds_root kinds word h) none (omega (arith, long, few))

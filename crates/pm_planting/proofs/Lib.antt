@@ -1,11 +1,12 @@
 pub mod FilledRows
 pub mod FoldedKinds
 pub mod KindLaws
+pub mod KindPatterns
 pub mod KindSides
-pub mod PlaneLaws
 pub mod PlaneSteps
 pub mod PlaneTrees
 pub mod ReadingSteps
+pub mod RootNodes
 pub mod RootRows
 pub mod Rows
 pub mod SideReading

@@ -7,26 +7,19 @@ use Rattle.std.proofs.lemmas.List.{reverse-append, append-nil, drop_all}
 use Rattle.pm_trees.specs.declared.letters.TheConstants.{LEAF, BUD, OPEN, CLOSE}
 use Rattle.pm_trees.specs.declared.patterns.TheConstants.{SLOT}
 use Rattle.pm_trees.specs.Blossoming.{IsBlossoming}
-use Rattle.pm_trees.specs.BudPattern.{HasRank, IsHalfDegree}
-use Rattle.pm_trees.proofs.Ranked.{patterns_ranked, half_some}
 use Rattle.pm_trees.specs.Word.{is_letter}
 use Rattle.pm_trees.proofs.Tally.{letter_cases, a_leaf as is_leaf, a_bud as is_bud, an_open as is_open, a_close as is_close}
 use Rattle.pm_planting.specs.steps.Folded.{front_of, behind, folded, AreKindsAlong}
 use Rattle.pm_planting.specs.steps.Folded.AreKindsAlong.{ended, a_leaf, a_node, no_object}
-use Rattle.pm_planting.specs.Kinds.{IsWordOfKinds}
-use Rattle.pm_planting.proofs.KindLaws.{same_pair}
+use Rattle.pm_planting.specs.Kinds.{HasKind, IsKind, IsWordOfKinds}
+use Rattle.pm_planting.specs.declared.kind.Kind.{Kind}
+use Rattle.pm_planting.specs.declared.kind.Kind.TheVariants.{Leaf}
+use Rattle.pm_planting.proofs.KindPatterns.{one_kind}
 use Rattle.pm_planting.proofs.FoldedKinds.{IsReadRoot, read_root, folded_open, folded_close, folded_bud, folded_leaf}
-use Rattle.pm_planting.proofs.WordKinds.{HasFewHalf, kinds_exist, kinds_few}
+use Rattle.pm_planting.proofs.WordKinds.{kinds_exist, kinds_each}
 
 reverse-push : {X : Type 0} (xs : List X) (x : X) → reverse (xs ++ x ∷ []) ≡ x ∷ reverse xs
 reverse-push xs x = reverse-append xs (x ∷ [])
-
--- a pattern has one half degree and one rank
-same_kind : (half other : ℕ) (pattern : List ℕ) (rank place : ℕ) → HasRank half pattern rank → HasRank other pattern place → ◌≡◌ {A = ℕ × ℕ} (half, rank) (other, place)
-same_kind half other pattern rank place p q =
-    let halves : half ≡ other = (let a = p.is_pattern.as_long in let b = q.is_pattern.as_long in omega (arith, a, b)) in
-    let ranks : rank ≡ place = (patterns_ranked other (half_some other pattern q.is_pattern)).one_rank pattern rank place (subst (λ (n : ℕ). HasRank n pattern rank) halves p) q in
-    same_pair (half, rank) (other, place) halves ranks
 
 -- so many entries are taken
 pub record IsTaking (before entries front : List ℕ) : Type 0 where
@@ -69,40 +62,40 @@ taken_all before entries front t e =
     }
 
 -- the letters from a place on are read
-pub record IsReadFrom (letters : List ℕ) (place : ℕ) (entries : List ℕ) (kinds : List (ℕ × ℕ)) : Type 0 where
+pub record IsReadFrom (letters : List ℕ) (place : ℕ) (entries : List ℕ) (kinds : List Kind) : Type 0 where
   pub folds : reverse entries ≡ folded (drop place letters)
   pub along : AreKindsAlong (drop place letters) (reverse kinds)
 
-pub read_none : (letters : List ℕ) (place : ℕ) (entries : List ℕ) (kinds : List (ℕ × ℕ)) → place ≡ length letters → entries ≡ [] → kinds ≡ [] → IsReadFrom letters place entries kinds
+pub read_none : (letters : List ℕ) (place : ℕ) (entries : List ℕ) (kinds : List Kind) → place ≡ length letters → entries ≡ [] → kinds ≡ [] → IsReadFrom letters place entries kinds
 read_none letters place entries kinds end e k =
     let none : drop place letters ≡ [] = drop_all place letters (omega (arith, end)) in
     record {
       folds = ap reverse e ∙ ap folded (sym none);
-      along = subst (λ (xs : List ℕ). AreKindsAlong xs (reverse kinds)) (sym none) (subst (λ (ks : List (ℕ × ℕ)). AreKindsAlong [] (reverse ks)) (sym k) ended);
+      along = subst (λ (xs : List ℕ). AreKindsAlong xs (reverse kinds)) (sym none) (subst (λ (ks : List Kind). AreKindsAlong [] (reverse ks)) (sym k) ended);
     }
 
 -- one letter more
-module _ (letters : List ℕ) (place letter : ℕ) (entries more : List ℕ) (kinds others : List (ℕ × ℕ)) (less : place < length letters) (here : slice_index letters place ≡ letter) (r : IsReadFrom letters (suc place) entries kinds) where
+module _ (letters : List ℕ) (place letter : ℕ) (entries more : List ℕ) (kinds others : List Kind) (less : place < length letters) (here : slice_index letters place ≡ letter) (r : IsReadFrom letters (suc place) entries kinds) where
   letters_here : drop place letters ≡ letter ∷ drop (suc place) letters
   letters_here = drop-cons letters place 0 less ∙ ap (λ (x : ℕ). x ∷ drop (suc place) letters) here
 
-  pub read_open : (half rank : ℕ) (rest : List ℕ) → letter ≡ OPEN → HasRank half (front_of (reverse entries)) rank → reverse rest ≡ behind (reverse entries) → more ≡ rest ++ SLOT ∷ []
-      → others ≡ kinds ++ (half, rank) ∷ [] → IsReadFrom letters place more others
-  read_open half rank rest opens ranked e m k =
+  pub read_open : (kind : Kind) (rest : List ℕ) → letter ≡ OPEN → HasKind kind (front_of (reverse entries)) → reverse rest ≡ behind (reverse entries) → more ≡ rest ++ SLOT ∷ []
+      → others ≡ kinds ++ kind ∷ [] → IsReadFrom letters place more others
+  read_open kind rest opens has e m k =
       record {
         folds = ap reverse m ∙ reverse-push rest SLOT ∙ ap (λ (xs : List ℕ). SLOT ∷ xs) (e ∙ ap behind r.folds) ∙ sym (ap folded letters_here ∙ folded_open letter (folded (drop (suc place) letters)) opens);
         along = subst (λ (xs : List ℕ). AreKindsAlong xs (reverse others)) (sym letters_here)
-            (subst (AreKindsAlong (letter ∷ drop (suc place) letters)) (sym (ap reverse k ∙ reverse-push kinds (half, rank)))
-            (a_node letter half rank (drop (suc place) letters) (reverse kinds) opens (subst (λ (xs : List ℕ). HasRank half (front_of xs) rank) r.folds ranked) r.along));
+            (subst (AreKindsAlong (letter ∷ drop (suc place) letters)) (sym (ap reverse k ∙ reverse-push kinds kind))
+            (a_node letter kind (drop (suc place) letters) (reverse kinds) opens (subst (λ (xs : List ℕ). HasKind kind (front_of xs)) r.folds has) r.along));
       }
 
-  pub read_leaf : letter ≡ LEAF → more ≡ entries ++ SLOT ∷ [] → others ≡ kinds ++ (0, 0) ∷ [] → IsReadFrom letters place more others
+  pub read_leaf : letter ≡ LEAF → more ≡ entries ++ SLOT ∷ [] → others ≡ kinds ++ Leaf ∷ [] → IsReadFrom letters place more others
   read_leaf leaf m k =
       record {
         folds = ap reverse m ∙ reverse-push entries SLOT ∙ ap (λ (xs : List ℕ). SLOT ∷ xs) r.folds
             ∙ sym (ap folded letters_here ∙ folded_leaf letter (folded (drop (suc place) letters)) (λ e. omega (arith, e, leaf)) (λ e. omega (arith, e, leaf)) (λ e. omega (arith, e, leaf)));
         along = subst (λ (xs : List ℕ). AreKindsAlong xs (reverse others)) (sym letters_here)
-            (subst (AreKindsAlong (letter ∷ drop (suc place) letters)) (sym (ap reverse k ∙ reverse-push kinds (0, 0))) (a_leaf letter (drop (suc place) letters) (reverse kinds) leaf r.along));
+            (subst (AreKindsAlong (letter ∷ drop (suc place) letters)) (sym (ap reverse k ∙ reverse-push kinds Leaf)) (a_leaf letter (drop (suc place) letters) (reverse kinds) leaf r.along));
       }
 
   pub read_other : IsBlossoming letters → (letter ≡ OPEN → ⊥) → (letter ≡ LEAF → ⊥) → more ≡ entries ++ letter ∷ [] → others ≡ kinds → IsReadFrom letters place more others
@@ -125,70 +118,63 @@ module _ (letters : List ℕ) (place letter : ℕ) (entries more : List ℕ) (ki
         ]
 
 -- a text has its objects' kinds once
-along_once : (xs : List ℕ) (kinds others : List (ℕ × ℕ)) → AreKindsAlong xs kinds → AreKindsAlong xs others → kinds ≡ others
+along_once : (xs : List ℕ) (kinds others : List Kind) → AreKindsAlong xs kinds → AreKindsAlong xs others → kinds ≡ others
 along_once _ _ _ ended ended = refl
-along_once _ _ _ (a_leaf x xs kinds e h) (a_leaf _ _ others f k) = ap (λ (ks : List (ℕ × ℕ)). (0, 0) ∷ ks) (along_once xs kinds others h k)
-along_once _ _ _ (a_leaf x xs kinds e h) (a_node _ half rank _ others f p k) = absurd (omega (arith, e, f))
+along_once _ _ _ (a_leaf x xs kinds e h) (a_leaf _ _ others f k) = ap (λ (ks : List Kind). Leaf ∷ ks) (along_once xs kinds others h k)
+along_once _ _ _ (a_leaf x xs kinds e h) (a_node _ kind _ others f p k) = absurd (omega (arith, e, f))
 along_once _ _ _ (a_leaf x xs kinds e h) (no_object _ _ others f g k) = absurd (f e)
-along_once _ _ _ (a_node x half rank xs kinds e p h) (a_leaf _ _ others f k) = absurd (omega (arith, e, f))
-along_once _ _ _ (a_node x half rank xs kinds e p h) (a_node _ other place _ others f q k) =
+along_once _ _ _ (a_node x kind xs kinds e p h) (a_leaf _ _ others f k) = absurd (omega (arith, e, f))
+along_once _ _ _ (a_node x kind xs kinds e p h) (a_node _ other _ others f q k) =
     let l = along_once xs kinds others h k in
-    let s = same_kind half other (front_of (folded xs)) rank place p q in
-    ap (λ (kind : ℕ × ℕ). kind ∷ kinds) s ∙ ap (λ (ks : List (ℕ × ℕ)). (other, place) ∷ ks) l
-along_once _ _ _ (a_node x half rank xs kinds e p h) (no_object _ _ others f g k) = absurd (g e)
+    let s = one_kind kind other (front_of (folded xs)) p q in
+    cc
+along_once _ _ _ (a_node x kind xs kinds e p h) (no_object _ _ others f g k) = absurd (g e)
 along_once _ _ _ (no_object x xs kinds e f h) (a_leaf _ _ others g k) = absurd (e g)
-along_once _ _ _ (no_object x xs kinds e f h) (a_node _ half rank _ others g p k) = absurd (f g)
+along_once _ _ _ (no_object x xs kinds e f h) (a_node _ kind _ others g p k) = absurd (f g)
 along_once _ _ _ (no_object x xs kinds e f h) (no_object _ _ others g i k) = along_once xs kinds others h k
 
--- the entries of each node are a pattern
+-- the entries of each node are a pattern of some kind
 abbrev pub IsNodePattern : List ℕ → Type 0
-IsNodePattern pattern = (half : ℕ) × (rank : ℕ) × IsHalfDegree half × HasRank half pattern rank
+IsNodePattern pattern = (kind : Kind) × IsKind kind × HasKind kind pattern
 
-node_pattern : (half rank : ℕ) (pattern : List ℕ) → HasFewHalf (half, rank) → HasRank half pattern rank → IsNodePattern pattern
-node_pattern half rank pattern f p = (half, rank, record { some = half_some half pattern p.is_pattern; few = f.few }, p)
-
-along_pattern : (xs : List ℕ) (kinds : List (ℕ × ℕ)) (place : ℕ) → AreKindsAlong xs kinds → All HasFewHalf kinds → place < length xs → slice_index xs place ≡ OPEN → IsNodePattern (front_of (folded (drop (suc place) xs)))
-along_pattern _ _ place ended few less opens = absurd (omega (arith, less))
-along_pattern _ _ zero (a_leaf x xs kinds e h) few less opens = absurd (omega (arith, e, opens))
-along_pattern _ _ (suc place) (a_leaf x xs kinds e h) few less opens = along_pattern xs kinds place h (All-tail HasFewHalf (0, 0) kinds few) (omega (arith, less)) opens
-along_pattern _ _ zero (a_node x half rank xs kinds e p h) few less opens = node_pattern half rank (front_of (folded xs)) (All-head HasFewHalf (half, rank) kinds few) p
-along_pattern _ _ (suc place) (a_node x half rank xs kinds e p h) few less opens = along_pattern xs kinds place h (All-tail HasFewHalf (half, rank) kinds few) (omega (arith, less)) opens
-along_pattern _ _ zero (no_object x xs kinds e f h) few less opens = absurd (f opens)
-along_pattern _ _ (suc place) (no_object x xs kinds e f h) few less opens = along_pattern xs kinds place h few (omega (arith, less)) opens
+along_pattern : (xs : List ℕ) (kinds : List Kind) (place : ℕ) → AreKindsAlong xs kinds → All IsKind kinds → place < length xs → slice_index xs place ≡ OPEN → IsNodePattern (front_of (folded (drop (suc place) xs)))
+along_pattern _ _ place ended each less opens = absurd (omega (arith, less))
+along_pattern _ _ zero (a_leaf x xs kinds e h) each less opens = absurd (omega (arith, e, opens))
+along_pattern _ _ (suc place) (a_leaf x xs kinds e h) each less opens = along_pattern xs kinds place h (All-tail IsKind Leaf kinds each) (omega (arith, less)) opens
+along_pattern _ _ zero (a_node x kind xs kinds e p h) each less opens = (kind, All-head IsKind kind kinds each, p)
+along_pattern _ _ (suc place) (a_node x kind xs kinds e p h) each less opens = along_pattern xs kinds place h (All-tail IsKind kind kinds each) (omega (arith, less)) opens
+along_pattern _ _ zero (no_object x xs kinds e f h) each less opens = absurd (f opens)
+along_pattern _ _ (suc place) (no_object x xs kinds e f h) each less opens = along_pattern xs kinds place h each (omega (arith, less)) opens
 
 -- what is known of a tree's root and of its letters
 record IsReadTree (letters : List ℕ) : Type 0 where
-  kinds : List (ℕ × ℕ)
+  kinds : List Kind
   planted : IsWordOfKinds kinds letters
   root : IsReadRoot kinds letters
-  few : All HasFewHalf ((root.half, root.rank) ∷ root.below)
+  each : All IsKind (root.kind ∷ root.below)
 
 read_tree : (letters : List ℕ) → IsBlossoming letters → IsReadTree letters
 read_tree letters tree =
     let found = kinds_exist letters tree in
     let root = read_root found.0 letters found.1 in
-    record { kinds = found.0; planted = found.1; root = root; few = subst (All HasFewHalf) root.kinds_are (kinds_few found.0 letters tree found.1) }
+    record { kinds = found.0; planted = found.1; root = root; each = subst (All IsKind) root.kinds_are (kinds_each found.0 letters tree found.1) }
 
-pub pattern_within : (letters : List ℕ) (place : ℕ) (entries : List ℕ) (kinds : List (ℕ × ℕ)) → IsBlossoming letters → IsReadFrom letters (suc place) entries kinds → place < length letters → slice_index letters place ≡ OPEN
+pub pattern_within : (letters : List ℕ) (place : ℕ) (entries : List ℕ) (kinds : List Kind) → IsBlossoming letters → IsReadFrom letters (suc place) entries kinds → place < length letters → slice_index letters place ≡ OPEN
     → IsNodePattern (front_of (reverse entries))
 pattern_within letters place entries kinds tree r less opens =
     let t = read_tree letters tree in
-    subst (λ (xs : List ℕ). IsNodePattern (front_of xs)) (sym r.folds)
-    (along_pattern letters t.root.below place t.root.along (All-tail HasFewHalf (t.root.half, t.root.rank) t.root.below t.few) less opens)
+    subst (λ (xs : List ℕ). IsNodePattern (front_of xs)) (sym r.folds) (along_pattern letters t.root.below place t.root.along (All-tail IsKind t.root.kind t.root.below t.each) less opens)
 
-pub pattern_at_root : (letters entries : List ℕ) (kinds : List (ℕ × ℕ)) → IsBlossoming letters → IsReadFrom letters 0 entries kinds → IsNodePattern (front_of (reverse entries))
+pub pattern_at_root : (letters entries : List ℕ) (kinds : List Kind) → IsBlossoming letters → IsReadFrom letters 0 entries kinds → IsNodePattern (front_of (reverse entries))
 pattern_at_root letters entries kinds tree r =
     let t = read_tree letters tree in
-    subst (λ (xs : List ℕ). IsNodePattern (front_of xs)) (sym r.folds)
-    (node_pattern t.root.half t.root.rank (front_of (folded letters)) (All-head HasFewHalf (t.root.half, t.root.rank) t.root.below t.few) t.root.has_rank)
+    subst (λ (xs : List ℕ). IsNodePattern (front_of xs)) (sym r.folds) (t.root.kind, All-head IsKind t.root.kind t.root.below t.each, t.root.has_kind)
 
 -- all letters and then the root node
-pub read_whole : (letters entries : List ℕ) (kinds all : List (ℕ × ℕ)) (half rank : ℕ) → IsBlossoming letters → IsReadFrom letters 0 entries kinds → HasRank half (front_of (reverse entries)) rank
-    → all ≡ kinds ++ (half, rank) ∷ [] → IsWordOfKinds (reverse all) letters
-read_whole letters entries kinds all half rank tree r ranked e =
+pub read_whole : (letters entries : List ℕ) (kinds all : List Kind) (kind : Kind) → IsBlossoming letters → IsReadFrom letters 0 entries kinds → HasKind kind (front_of (reverse entries)) → all ≡ kinds ++ kind ∷ [] → IsWordOfKinds (reverse all) letters
+read_whole letters entries kinds all kind tree r has e =
     let t = read_tree letters tree in
     let below = along_once letters t.root.below (reverse kinds) t.root.along r.along in
-    let kind = same_kind t.root.half half (front_of (folded letters)) t.root.rank rank t.root.has_rank (subst (λ (xs : List ℕ). HasRank half (front_of xs) rank) r.folds ranked) in
-    subst (λ (ks : List (ℕ × ℕ)). IsWordOfKinds ks letters)
-    (t.root.kinds_are ∙ ap (λ (k : ℕ × ℕ). k ∷ t.root.below) kind ∙ ap (λ (ks : List (ℕ × ℕ)). (half, rank) ∷ ks) below ∙ sym (ap reverse e ∙ reverse-push kinds (half, rank)))
-    t.planted
+    let root = one_kind t.root.kind kind (front_of (folded letters)) t.root.has_kind (subst (λ (xs : List ℕ). HasKind kind (front_of xs)) r.folds has) in
+    let whole : t.root.kind ∷ t.root.below ≡ kind ∷ reverse kinds = cc in
+    subst (λ (ks : List Kind). IsWordOfKinds ks letters) (t.root.kinds_are ∙ whole ∙ sym (ap reverse e ∙ reverse-push kinds kind)) t.planted

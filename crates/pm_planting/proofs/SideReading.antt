@@ -1,36 +1,34 @@
 -- A blossoming tree is read in one way: its word tells the kinds of its objects in preorder.
-use Rattle.std.proofs.Common.{◌≡◌, ◌⊎◌, ℕ, ◌+◌, ◌==◌, inl, inr, List, [], ◌∷◌, ◌++◌, length, map, All, refl, ap, sym, ◌∙◌, subst, arith, append_assoc}
+use Rattle.std.proofs.Common.{◌≡◌, ◌⊎◌, ℕ, ◌+◌, ◌==◌, inl, inr, List, [], ◌∷◌, ◌++◌, length, All, refl, ap, sym, ◌∙◌, subst, arith, append_assoc}
 use Rattle.std.proofs.lemmas.List.{map-append}
 use Rattle.std.proofs.lemmas.List.Sums.{count_by-le-length}
 use Rattle.std.proofs.lemmas.List.Elements.{All-nil, All-cons, All-head, All-tail}
 use Rattle.pm_trees.specs.declared.letters.TheConstants.{LEAF, BUD, OPEN, CLOSE}
 use Rattle.pm_trees.specs.declared.patterns.TheConstants.{SLOT}
-use Rattle.pm_trees.specs.BudPattern.{IsPattern, HasRank}
+use Rattle.pm_trees.specs.BudPattern.{IsPattern}
 use Rattle.pm_trees.proofs.Dyck.{IsDyck}
 use Rattle.pm_trees.proofs.Dyck.IsDyck.{empty, letter, bracket}
-use Rattle.pm_trees.proofs.Ranked.{patterns_ranked}
 use Rattle.pm_trees.proofs.Tally.{tally, tally_is, tally_yes, tally_no}
-use Rattle.pm_planting.specs.Kinds.{AreSides, IsWordOfKinds}
+use Rattle.pm_planting.specs.Kinds.{AreSides, HasKind, IsWordOfKinds, half_of, halves_in}
 use Rattle.pm_planting.specs.Kinds.AreSides.{none, leaf, node}
 use Rattle.pm_planting.specs.Kinds.{filled}
+use Rattle.pm_planting.specs.declared.kind.Kind.{Kind}
+use Rattle.pm_planting.specs.declared.kind.Kind.TheVariants.{Leaf}
+use Rattle.pm_planting.proofs.KindPatterns.{kind_pattern, one_kind}
 use Rattle.pm_planting.proofs.FilledRows.{AreRows, filled_bud, filled_slot, node_row}
 use Rattle.pm_planting.proofs.FilledRows.AreRows.{no_rows, one_row}
 use Rattle.pm_planting.proofs.RootRows.{root_side}
 use Rattle.pm_planting.proofs.Rows.{row_leaf}
 use Rattle.pm_planting.proofs.SideTexts.{same_push}
 
--- the half degrees of these kinds
-abbrev pub halves_in : List (ℕ × ℕ) → List ℕ
-halves_in kinds = map (λ (kind : ℕ × ℕ). kind.0) kinds
-
-pub kinds_rows : (kinds : List (ℕ × ℕ)) (texts : List (List ℕ)) → AreSides kinds texts → AreRows (halves_in kinds) texts
+pub kinds_rows : (kinds : List Kind) (texts : List (List ℕ)) → AreSides kinds texts → AreRows (halves_in kinds) texts
 kinds_rows _ _ none = no_rows
 kinds_rows _ _ (leaf later texts h) = one_row (0 ∷ []) (halves_in later) (LEAF ∷ []) texts row_leaf (kinds_rows later texts h)
-kinds_rows _ _ (node half rank under later pattern sides texts s p h e k) =
+kinds_rows _ _ (node kind under later pattern sides texts p h e k) =
     let text : List ℕ = OPEN ∷ filled pattern sides ++ CLOSE ∷ [] in
-    let side = root_side (half ∷ halves_in under) (filled pattern sides) (node_row half pattern (halves_in under) sides p.is_pattern e (kinds_rows under sides h)) in
-    subst (λ (hs : List ℕ). AreRows (half ∷ hs) (text ∷ texts)) (sym (map-append (λ (kind : ℕ × ℕ). kind.0) under later))
-    (one_row (half ∷ halves_in under) (halves_in later) text texts side (kinds_rows later texts k))
+    let side = root_side (half_of kind ∷ halves_in under) (filled pattern sides) (node_row (half_of kind) pattern (halves_in under) sides (kind_pattern kind pattern p) e (kinds_rows under sides h)) in
+    subst (λ (hs : List ℕ). AreRows (half_of kind ∷ hs) (text ∷ texts)) (sym (map-append half_of under later))
+    (one_row (half_of kind ∷ halves_in under) (halves_in later) text texts side (kinds_rows later texts k))
 
 -- what is closed by the next bracket
 record IsSameClosed (xs ys more rest : List ℕ) : Type 0 where
@@ -65,11 +63,11 @@ pub data IsSideText : List ℕ → Type 0 where
   a_leaf : IsSideText (LEAF ∷ [])
   a_node : (xs : List ℕ) → IsDyck xs → IsSideText (OPEN ∷ xs ++ CLOSE ∷ [])
 
-pub side_texts : (kinds : List (ℕ × ℕ)) (texts : List (List ℕ)) → AreSides kinds texts → All IsSideText texts
+pub side_texts : (kinds : List Kind) (texts : List (List ℕ)) → AreSides kinds texts → All IsSideText texts
 side_texts _ _ none = All-nil IsSideText
 side_texts _ _ (leaf later texts h) = All-cons IsSideText (LEAF ∷ []) texts a_leaf (side_texts later texts h)
-side_texts _ _ (node half rank under later pattern sides texts s p h e k) =
-    let root = node_row half pattern (halves_in under) sides p.is_pattern e (kinds_rows under sides h) in
+side_texts _ _ (node kind under later pattern sides texts p h e k) =
+    let root = node_row (half_of kind) pattern (halves_in under) sides (kind_pattern kind pattern p) e (kinds_rows under sides h) in
     All-cons IsSideText (OPEN ∷ filled pattern sides ++ CLOSE ∷ []) texts (a_node (filled pattern sides) root.row.dyck) (side_texts later texts k)
 
 -- texts that begin the same
@@ -174,34 +172,33 @@ same_filling [] q texts others f g e = no_entry (first_entry [] texts f) (first_
 same_filling (x ∷ p) q texts others f g e =
     same_entry x p q texts others (first_entry (x ∷ p) texts f) (first_entry q others g) e (λ later more rest h k i. same_filling p later more rest h k i)
 
-filling : (half : ℕ) (kinds : List (ℕ × ℕ)) (pattern : List ℕ) (sides : List (List ℕ)) → IsPattern half pattern → AreSides kinds sides → length sides ≡ half → IsFilling pattern sides
+filling : (half : ℕ) (kinds : List Kind) (pattern : List ℕ) (sides : List (List ℕ)) → IsPattern half pattern → AreSides kinds sides → length sides ≡ half → IsFilling pattern sides
 filling half kinds pattern sides p h e =
     record { letters = p.letters; as_many = let t = tally_is BUD pattern in let l = p.as_long in let b = p.budded in omega (arith, t, l, b, e); sides = side_texts kinds sides h }
 
 -- the same texts are those of objects of the same kinds
-same_kinds : (kinds others : List (ℕ × ℕ)) (texts also : List (List ℕ)) → AreSides kinds texts → AreSides others also → texts ≡ also → kinds ≡ others
+same_kinds : (kinds others : List Kind) (texts also : List (List ℕ)) → AreSides kinds texts → AreSides others also → texts ≡ also → kinds ≡ others
 same_kinds _ _ _ _ none none e = refl
 same_kinds _ _ _ _ none (leaf later texts h) e = absurd cc
-same_kinds _ _ _ _ none (node half rank under later pattern sides texts s p h l k) e = absurd cc
+same_kinds _ _ _ _ none (node kind under later pattern sides texts p h l k) e = absurd cc
 same_kinds _ _ _ _ (leaf later texts h) none e = absurd cc
 same_kinds _ _ _ _ (leaf later texts h) (leaf after also k) e =
     let t : texts ≡ also = cc in
-    ap (λ (ks : List (ℕ × ℕ)). (0, 0) ∷ ks) (same_kinds later after texts also h k t)
-same_kinds _ _ _ _ (leaf later texts h) (node half rank under after pattern sides also s p k l m) e = absurd (let a : LEAF ≡ OPEN = cc in omega (arith, a))
-same_kinds _ _ _ _ (node half rank under later pattern sides texts s p h l k) none e = absurd cc
-same_kinds _ _ _ _ (node half rank under later pattern sides texts s p h l k) (leaf after also m) e = absurd (let a : OPEN ≡ LEAF = cc in omega (arith, a))
-same_kinds _ _ _ _ (node half rank under later pattern sides texts s p h l k) (node other place below after model fillings also t q i m j) e =
+    ap (λ (ks : List Kind). Leaf ∷ ks) (same_kinds later after texts also h k t)
+same_kinds _ _ _ _ (leaf later texts h) (node kind under after pattern sides also p k l m) e = absurd (let a : LEAF ≡ OPEN = cc in omega (arith, a))
+same_kinds _ _ _ _ (node kind under later pattern sides texts p h l k) none e = absurd cc
+same_kinds _ _ _ _ (node kind under later pattern sides texts p h l k) (leaf after also m) e = absurd (let a : OPEN ≡ LEAF = cc in omega (arith, a))
+same_kinds _ _ _ _ (node kind under later pattern sides texts p h l k) (node other below after model fillings also q i m j) e =
     let a : filled pattern sides ++ CLOSE ∷ [] ≡ filled model fillings ++ CLOSE ∷ [] = cc in
     let b : texts ≡ also = cc in
     let inside = (same_push (filled pattern sides) (filled model fillings) CLOSE CLOSE a).lists in
-    let f = same_filling pattern model sides fillings (filling half under pattern sides p.is_pattern h l) (filling other below model fillings q.is_pattern i m) inside in
+    let f = same_filling pattern model sides fillings (filling (half_of kind) under pattern sides (kind_pattern kind pattern p) h l) (filling (half_of other) below model fillings (kind_pattern other model q) i m) inside in
     let g = f.fillings in
-    let halves : half ≡ other = (let c = ap length g in omega (arith, c, l, m)) in
-    let ranks : rank ≡ place = (patterns_ranked other t).one_rank model rank place (subst (λ (w : List ℕ). HasRank other w rank) f.patterns (subst (λ (n : ℕ). HasRank n pattern rank) halves p)) q in
+    let same : kind ≡ other = one_kind kind other model (subst (HasKind kind) f.patterns p) q in
     let c = same_kinds under below sides fillings h i g in
     let d = same_kinds later after texts also k j b in
     cc
 
 -- the word of a tree tells the kinds of its objects
-pub one_reading : (kinds others : List (ℕ × ℕ)) (word : List ℕ) → IsWordOfKinds kinds word → IsWordOfKinds others word → kinds ≡ others
+pub one_reading : (kinds others : List Kind) (word : List ℕ) → IsWordOfKinds kinds word → IsWordOfKinds others word → kinds ≡ others
 one_reading kinds others word h k = same_kinds kinds others ((OPEN ∷ word ++ CLOSE ∷ []) ∷ []) ((OPEN ∷ word ++ CLOSE ∷ []) ∷ []) h k refl

@@ -1,7 +1,6 @@
 -- Each blossoming tree is a plane tree with bud patterns: its word is that of objects of some kinds.
-use Rattle.std.proofs.Common.{◌≡◌, ◌⊎◌, ℕ, suc, ◌+◌, ◌*◌, ◌/◌, ◌<◌, ◌≤◌, inl, inr, List, [], ◌∷◌, ◌++◌, length, All, IsTrue, refl, ap, sym, ◌∙◌, subst, arith, append_assoc}
+use Rattle.std.proofs.Common.{◌≡◌, ◌⊎◌, ℕ, suc, ◌+◌, ◌*◌, ◌<◌, inl, inr, List, [], ◌∷◌, ◌++◌, length, All, IsTrue, refl, ap, sym, ◌∙◌, subst, arith, append_assoc}
 use Rattle.std.proofs.lemmas.List.Elements.{All-nil, All-cons, All-append, All-head, All-tail}
-use Rattle.pm_limits.specs.declared.TheConstants.{MAX_DEGREE}
 use Rattle.pm_trees.specs.declared.letters.TheConstants.{LEAF, BUD, OPEN, CLOSE}
 use Rattle.pm_trees.specs.declared.patterns.TheConstants.{SLOT}
 use Rattle.pm_trees.specs.Word.{is_letter}
@@ -15,25 +14,23 @@ use Rattle.pm_trees.proofs.Ranked.{patterns_ranked}
 use Rattle.pm_trees.proofs.Rings.{bad, bad_is, none_bad, contour_weight}
 use Rattle.pm_trees.proofs.Tally.{tally, tally_is, tally-nil, tally_yes, tally_no, IsOneOf, letter_cases, a_leaf, a_bud, an_open, a_close}
 use Rattle.pm_trees.proofs.Weights.{value, value_is, inner, inner_other, inner_of_bracket, own_bracket}
-use Rattle.pm_planting.specs.Kinds.{AreSides, IsWordOfKinds}
+use Rattle.pm_planting.specs.Kinds.{AreSides, IsKind, IsWordOfKinds}
 use Rattle.pm_planting.specs.Kinds.AreSides.{none, leaf, node}
 use Rattle.pm_planting.specs.Kinds.{filled}
+use Rattle.pm_planting.specs.declared.kind.Kind.{Kind}
+use Rattle.pm_planting.specs.declared.kind.Kind.TheVariants.{Leaf, Node}
 use Rattle.pm_planting.proofs.SideReading.{one_reading}
 use Rattle.pm_planting.proofs.FilledRows.{filled_bud, filled_slot}
 
--- a kind of a node whose degree is within the limit
-pub record HasFewHalf (kind : ℕ × ℕ) : Type 0 where
-  pub few : kind.0 ≤ MAX_DEGREE / 2
-
 -- the letters between the brackets of a node, as a pattern with texts of trees in its slots
 record HasEntries (word : List ℕ) : Type 0 where
-  kinds : List (ℕ × ℕ)
+  kinds : List Kind
   pattern : List ℕ
   sides : List (List ℕ)
   letters : All (λ x. (x ≡ BUD) ⊎ (x ≡ SLOT)) pattern
   as_many : length sides + tally BUD pattern ≡ length pattern
   are_sides : AreSides kinds sides
-  few : All HasFewHalf kinds
+  each : All IsKind kinds
   word_is : filled pattern sides ≡ word
   entries : length pattern ≡ length (own_letters 0 word)
   buds : tally BUD pattern ≡ tally BUD (own_letters 0 word)
@@ -46,7 +43,7 @@ no_entries = record {
   letters = All-nil (λ x. (x ≡ BUD) ⊎ (x ≡ SLOT));
   as_many = let t = tally-nil BUD in omega (arith, t);
   are_sides = none;
-  few = All-nil HasFewHalf;
+  each = All-nil IsKind;
   word_is = refl;
   entries = refl;
   buds = refl;
@@ -69,17 +66,17 @@ bud_entry x word o bud h =
       letters = All-cons (λ x. (x ≡ BUD) ⊎ (x ≡ SLOT)) BUD h.pattern (inl refl) h.letters;
       as_many = omega (arith, t, m);
       are_sides = h.are_sides;
-      few = h.few;
+      each = h.each;
       word_is = filled_bud BUD h.pattern h.sides refl ∙ ap (λ (w : List ℕ). BUD ∷ w) h.word_is ∙ ap (λ (y : ℕ). y ∷ word) (sym bud);
       entries = omega (arith, own_long, e);
       buds = omega (arith, t, u, own_budded, b);
     }
 
 -- a slot with the text of a tree
-slot_entry : (text word all : List ℕ) (front : List (ℕ × ℕ)) → HasEntries word → text ++ word ≡ all → All HasFewHalf front
-    → ((kinds : List (ℕ × ℕ)) (sides : List (List ℕ)) → AreSides kinds sides → AreSides (front ++ kinds) (text ∷ sides))
+slot_entry : (text word all : List ℕ) (front : List Kind) → HasEntries word → text ++ word ≡ all → All IsKind front
+    → ((kinds : List Kind) (sides : List (List ℕ)) → AreSides kinds sides → AreSides (front ++ kinds) (text ∷ sides))
     → length (own_letters 0 all) ≡ suc (length (own_letters 0 word)) → tally BUD (own_letters 0 all) ≡ tally BUD (own_letters 0 word) → HasEntries all
-slot_entry text word all front h same few side entries buds =
+slot_entry text word all front h same each side entries buds =
     let t = tally_no BUD SLOT h.pattern (λ e. omega (arith, e)) in
     let m = h.as_many in
     let e = h.entries in
@@ -91,7 +88,7 @@ slot_entry text word all front h same few side entries buds =
       letters = All-cons (λ x. (x ≡ BUD) ⊎ (x ≡ SLOT)) SLOT h.pattern (inr refl) h.letters;
       as_many = omega (arith, t, m);
       are_sides = side h.kinds h.sides h.are_sides;
-      few = All-append HasFewHalf front h.kinds few h.few;
+      each = All-append IsKind front h.kinds each h.each;
       word_is = filled_slot SLOT h.pattern text h.sides (λ e. omega (arith, e)) ∙ ap (λ (w : List ℕ). text ++ w) h.word_is ∙ same;
       entries = omega (arith, entries, e);
       buds = omega (arith, t, buds, b);
@@ -100,15 +97,15 @@ slot_entry text word all front h same few side entries buds =
 leaf_entry : (x : ℕ) (word : List ℕ) → IsOther x → x ≡ LEAF → HasEntries word → HasEntries (x ∷ word)
 leaf_entry x word o here h =
     let own = other_here x word o in
-    slot_entry (LEAF ∷ []) word (x ∷ word) ((0, 0) ∷ []) h (ap (λ (y : ℕ). y ∷ word) (sym here)) (All-cons HasFewHalf (0, 0) [] (record { few = omega arith }) (All-nil HasFewHalf)) (λ kinds sides k. leaf kinds sides k) (ap length own)
+    slot_entry (LEAF ∷ []) word (x ∷ word) (Leaf ∷ []) h (ap (λ (y : ℕ). y ∷ word) (sym here)) (All-cons IsKind Leaf [] tt (All-nil IsKind)) (λ kinds sides k. leaf kinds sides k) (ap length own)
     (ap (tally BUD) own ∙ tally_no BUD x (own_letters 0 word) (λ e. omega (arith, e, here)))
 
 -- a node with its half degree and rank
-record IsNodeOf (word : List ℕ) (front : List (ℕ × ℕ)) : Type 0 where
-  few : All HasFewHalf front
-  more : (kinds : List (ℕ × ℕ)) (sides : List (List ℕ)) → AreSides kinds sides → AreSides (front ++ kinds) ((OPEN ∷ word ++ CLOSE ∷ []) ∷ sides)
+record IsNodeOf (word : List ℕ) (front : List Kind) : Type 0 where
+  each : All IsKind front
+  more : (kinds : List Kind) (sides : List (List ℕ)) → AreSides kinds sides → AreSides (front ++ kinds) ((OPEN ∷ word ++ CLOSE ∷ []) ∷ sides)
 
-node_of : (word : List ℕ) → HasEntries word → value bad 1 word ≡ 0 → (front : List (ℕ × ℕ)) × IsNodeOf word front
+node_of : (word : List ℕ) → HasEntries word → value bad 1 word ≡ 0 → (front : List Kind) × IsNodeOf word front
 node_of word h none_here =
     let v = value_is bad 1 word in
     let b = bad_is (1 + length (own_letters 0 word)) (tally BUD (own_letters 0 word)) in
@@ -122,19 +119,20 @@ node_of word h none_here =
     let some : 0 < suc (tally BUD h.pattern) = omega arith in
     let ranked : (rank : ℕ) × HasRank (suc (tally BUD h.pattern)) h.pattern rank = (patterns_ranked (suc (tally BUD h.pattern)) some).has_rank h.pattern is in
     let many : length h.sides ≡ suc (tally BUD h.pattern) = omega (arith, long, m) in (
-      (half, ranked.0) ∷ h.kinds,
+      Node half ranked.0 ∷ h.kinds,
       record {
-        few = All-cons HasFewHalf (half, ranked.0) h.kinds (record { few = omega (arith, v, b, e, d, none_here) }) h.few;
+        each = All-cons IsKind (Node half ranked.0) h.kinds
+            (record { some = some; few = omega (arith, v, b, e, d, none_here) }, (patterns_ranked (suc (tally BUD h.pattern)) some).below h.pattern ranked.0 ranked.1) h.each;
         more = λ kinds sides k.
-            subst (λ (w : List ℕ). AreSides ((half, ranked.0) ∷ h.kinds ++ kinds) ((OPEN ∷ w ++ CLOSE ∷ []) ∷ sides)) h.word_is
-            (node half ranked.0 h.kinds kinds h.pattern h.sides sides some ranked.1 h.are_sides many k);
+            subst (λ (w : List ℕ). AreSides (Node half ranked.0 ∷ h.kinds ++ kinds) ((OPEN ∷ w ++ CLOSE ∷ []) ∷ sides)) h.word_is
+            (node (Node half ranked.0) h.kinds kinds h.pattern h.sides sides ranked.1 h.are_sides many k);
       },
     )
 
-node_entry : (xs ys : List ℕ) (front : List (ℕ × ℕ)) → IsDyck xs → IsNodeOf xs front → HasEntries ys → HasEntries (OPEN ∷ (xs ++ CLOSE ∷ ys))
+node_entry : (xs ys : List ℕ) (front : List Kind) → IsDyck xs → IsNodeOf xs front → HasEntries ys → HasEntries (OPEN ∷ (xs ++ CLOSE ∷ ys))
 node_entry xs ys front a n h =
     let own = own_bracket xs ys a in
-    slot_entry (OPEN ∷ xs ++ CLOSE ∷ []) ys (OPEN ∷ (xs ++ CLOSE ∷ ys)) front h (ap (λ (w : List ℕ). OPEN ∷ w) (append_assoc xs (CLOSE ∷ []) ys)) n.few (λ kinds sides k. n.more kinds sides k) (ap length own)
+    slot_entry (OPEN ∷ xs ++ CLOSE ∷ []) ys (OPEN ∷ (xs ++ CLOSE ∷ ys)) front h (ap (λ (w : List ℕ). OPEN ∷ w) (append_assoc xs (CLOSE ∷ []) ys)) n.each (λ kinds sides k. n.more kinds sides k) (ap length own)
     (ap (tally BUD) own ∙ tally_no BUD OPEN (own_letters 0 ys) (λ e. omega (arith, e)))
 
 -- letters before and behind a bracket
@@ -163,7 +161,7 @@ has_entries _ (bracket xs ys a b) all z =
     node_entry xs ys n.0 a n.1 k
 
 -- the root node, and what is known of its kind and the others'
-root_entries : (word : List ℕ) → IsBlossoming word → (kinds : List (ℕ × ℕ)) × IsNodeOf word kinds
+root_entries : (word : List ℕ) → IsBlossoming word → (kinds : List Kind) × IsNodeOf word kinds
 root_entries word tree =
     let z = none_bad word tree in
     let w = contour_weight bad word in
@@ -171,11 +169,11 @@ root_entries word tree =
     node_of word h (omega (arith, z, w))
 
 -- the kinds of the tree's objects
-pub kinds_exist : (word : List ℕ) → IsBlossoming word → (kinds : List (ℕ × ℕ)) × IsWordOfKinds kinds word
+pub kinds_exist : (word : List ℕ) → IsBlossoming word → (kinds : List Kind) × IsWordOfKinds kinds word
 kinds_exist word tree = let n = root_entries word tree in (n.0 ++ [], n.1.more [] [] none)
 
--- whose half degrees are within the limit
-pub kinds_few : (kinds : List (ℕ × ℕ)) (word : List ℕ) → IsBlossoming word → IsWordOfKinds kinds word → All HasFewHalf kinds
-kinds_few kinds word tree h =
+-- each of them is one that an object can have
+pub kinds_each : (kinds : List Kind) (word : List ℕ) → IsBlossoming word → IsWordOfKinds kinds word → All IsKind kinds
+kinds_each kinds word tree h =
     let n = root_entries word tree in
-    subst (All HasFewHalf) (one_reading (n.0 ++ []) kinds word (n.1.more [] [] none) h) (All-append HasFewHalf n.0 [] n.1.few (All-nil HasFewHalf))
+    subst (All IsKind) (one_reading (n.0 ++ []) kinds word (n.1.more [] [] none) h) (All-append IsKind n.0 [] n.1.each (All-nil IsKind))

@@ -1,16 +1,15 @@
 //! Reading: a blossoming tree is a plane tree with a bud pattern at each node.
-ghost use Rattle.std.specs.Prelude.{◌≡◌, ℕ, IfOk, OnOk, reverse};
-ghost use Rattle.pm_trees.specs.BudPattern.{HasRank, IsHalfDegree};
+ghost use Rattle.std.specs.Prelude.{◌≡◌, IfOk, OnOk, reverse};
 ghost use Rattle.pm_planting.specs.steps.Folded.{front_of, behind};
-ghost use Rattle.pm_planting.specs.Kinds.{IsWordOfKinds};
+ghost use Rattle.pm_planting.specs.Kinds.{HasKind, IsKind, IsWordOfKinds};
 
+use crate::kind::Kind;
 use pm_trees::{CLOSE, LEAF, OPEN, SLOT, Tree, rank};
 use std::alloc::{AllocError, Global};
 
-/// The kinds of the tree's objects in preorder: for a node half of its degree and the rank of its bud pattern, and for a leaf
-/// two zeros. The letters are read from the last one on. The entries that are read are kept, with a closing bracket before
-/// those of each node whose opening bracket isn't read yet.
-pub fn kinds_of_tree(alloc: Global, tree: &Tree) -> Result<Vec<(u32, u64)>, AllocError>
+/// The kinds of the tree's objects in preorder. The letters are read from the last one on. The entries that are read are
+/// kept, with a closing bracket before those of each node whose opening bracket isn't read yet.
+pub fn kinds_of_tree(alloc: Global, tree: &Tree) -> Result<Vec<Kind>, AllocError>
     ensures { IfOk result (λ kinds. IsWordOfKinds kinds.items tree.now) }
 {
     let letters = tree.letters();
@@ -22,7 +21,7 @@ pub fn kinds_of_tree(alloc: Global, tree: &Tree) -> Result<Vec<(u32, u64)>, Allo
             kinds.push(end_node(alloc, &mut entries)?)?;
             entries.push(SLOT)?;
         } else if letter == LEAF {
-            kinds.push((0, 0))?;
+            kinds.push(Kind::Leaf)?;
             entries.push(SLOT)?;
         } else {
             entries.push(letter)?;
@@ -34,14 +33,15 @@ pub fn kinds_of_tree(alloc: Global, tree: &Tree) -> Result<Vec<(u32, u64)>, Allo
 }
 
 /// Takes off the entries of the last node, and tells its kind.
-fn end_node(alloc: Global, entries: &mut Vec<u8>) -> Result<(u32, u64), AllocError>
-    requires { (half : ℕ) × (rank : ℕ) × IsHalfDegree half × HasRank half (front_of (reverse entries.old.items)) rank }
-    ensures kind { IfOk result (λ kind. HasRank kind.0 (front_of (reverse entries.old.items)) kind.1) }
+fn end_node(alloc: Global, entries: &mut Vec<u8>) -> Result<Kind, AllocError>
+    requires { (kind : Kind) × IsKind kind × HasKind kind (front_of (reverse entries.old.items)) }
+    ensures kind { IfOk result (λ kind. HasKind kind (front_of (reverse entries.old.items))) }
     ensures rest { OnOk result (reverse entries.new.items ≡ behind (reverse entries.old.items)) }
 {
     let pattern = take_entries(alloc, entries)?;
     let half = (pattern.len() as u32 + 1) / 2;
-    Ok((half, rank(&pattern)))
+    let rank = rank(&pattern);
+    Ok(Kind::Node { half, rank })
 }
 
 /// Takes off the last entries up to a closing bracket, and the bracket.

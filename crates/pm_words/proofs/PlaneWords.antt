@@ -1,5 +1,5 @@
 -- Plane trees and their words go over into one another.
-use Rattle.std.proofs.Common.{◌≡◌, ℕ, zero, suc, ◌+◌, ◌<◌, ◌≤◌, List, [], ◌∷◌, ◌++◌, length, get_or, take, drop, refl, ap, sym, ◌∙◌, subst, arith, append_assoc, pos, negsuc, ◌+ℤ◌, ◌≤ℤ◌, ℤ}
+use Rattle.std.proofs.Common.{◌≡◌, ℕ, zero, suc, ◌+◌, ◌<◌, ◌≤◌, List, [], ◌∷◌, ◌++◌, length, map, get_or, take, drop, refl, ap, sym, ◌∙◌, subst, arith, append_assoc, pos, negsuc, ◌+ℤ◌, ◌≤ℤ◌, ℤ}
 use Rattle.std.proofs.lemmas.Int.{ints}
 use Rattle.std.proofs.lemmas.List.{append-nil, take-append-drop}
 use Rattle.pm_words.specs.Word.{sum_of, IsWord, IsGood}
@@ -50,6 +50,14 @@ IsWord-cons letter later least is_word = record { least = go }
 
 IsWord-tail : (letter : ℤ) (later : List ℤ) → IsWord (letter ∷ later) → IsWord later
 IsWord-tail letter later is_word = record { least = λ place inside. is_word.least (suc place) (omega arith) }
+
+-- the letters of nodes with so many children
+pub letters-word : {X : Type 0} (children : X → ℕ) (xs : List X) → IsWord (map (λ x. letter_of (children x)) xs)
+letters-word children [] = record { least = λ place inside. absurd (omega arith) }
+letters-word children (x ∷ xs) = IsWord-cons (letter_of (children x)) (map (λ x. letter_of (children x)) xs) (least (children x)) (letters-word children xs) where
+  least : (many : ℕ) → negsuc 0 ≤ℤ letter_of many
+  least zero = omega (arith, ints)
+  least (suc more) = omega (arith, ints)
 
 pub letter_of-is : (many : ℕ) → letter_of many +ℤ pos 1 ≡ pos many
 letter_of-is zero = refl

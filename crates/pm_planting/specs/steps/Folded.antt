@@ -2,7 +2,9 @@
 use Rattle.std.specs.Prelude.{◌≡◌, ℕ, ◌==◌, List, [], ◌∷◌, if◌then◌else◌}
 use Rattle.pm_trees.specs.declared.letters.TheConstants.{LEAF, BUD, OPEN, CLOSE}
 use Rattle.pm_trees.specs.declared.patterns.TheConstants.{SLOT}
-use Rattle.pm_trees.specs.BudPattern.{HasRank}
+use Rattle.pm_planting.specs.Kinds.{HasKind}
+use Rattle.pm_planting.specs.declared.kind.Kind.{Kind}
+use Rattle.pm_planting.specs.declared.kind.Kind.TheVariants.{Leaf}
 
 -- what stands before the first closing bracket, and what stands behind it
 abbrev pub front_of : List ℕ → List ℕ
@@ -27,8 +29,8 @@ folded [] = []
 folded (x ∷ xs) = fold_letter x (folded xs)
 
 -- the kinds of the objects that begin in the text
-pub data AreKindsAlong : List ℕ → List (ℕ × ℕ) → Type 0 where
+pub data AreKindsAlong : List ℕ → List Kind → Type 0 where
   ended : AreKindsAlong [] []
-  a_leaf : (x : ℕ) (xs : List ℕ) (kinds : List (ℕ × ℕ)) → x ≡ LEAF → AreKindsAlong xs kinds → AreKindsAlong (x ∷ xs) ((0, 0) ∷ kinds)
-  a_node : (x half rank : ℕ) (xs : List ℕ) (kinds : List (ℕ × ℕ)) → x ≡ OPEN → HasRank half (front_of (folded xs)) rank → AreKindsAlong xs kinds → AreKindsAlong (x ∷ xs) ((half, rank) ∷ kinds)
-  no_object : (x : ℕ) (xs : List ℕ) (kinds : List (ℕ × ℕ)) → (x ≡ LEAF → ⊥) → (x ≡ OPEN → ⊥) → AreKindsAlong xs kinds → AreKindsAlong (x ∷ xs) kinds
+  a_leaf : (x : ℕ) (xs : List ℕ) (kinds : List Kind) → x ≡ LEAF → AreKindsAlong xs kinds → AreKindsAlong (x ∷ xs) (Leaf ∷ kinds)
+  a_node : (x : ℕ) (kind : Kind) (xs : List ℕ) (kinds : List Kind) → x ≡ OPEN → HasKind kind (front_of (folded xs)) → AreKindsAlong xs kinds → AreKindsAlong (x ∷ xs) (kind ∷ kinds)
+  no_object : (x : ℕ) (xs : List ℕ) (kinds : List Kind) → (x ≡ LEAF → ⊥) → (x ≡ OPEN → ⊥) → AreKindsAlong xs kinds → AreKindsAlong (x ∷ xs) kinds

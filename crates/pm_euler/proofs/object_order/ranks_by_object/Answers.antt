@@ -1,18 +1,14 @@
-use Rattle.std.proofs.Common.{rules, ◌<◌, length, slice_index, slice_index_or, slice_set, refl, arith}
-use Rattle.pm_euler.proofs.ObjectPlaces.{ranked_none, ranked_skipped, ranked_one}
+use Rattle.std.proofs.Common.{slice_index, slice_set, refl, arith}
+use Rattle.pm_euler.proofs.ObjectPlaces.{ranked_one}
 use Rattle.pm_euler.proofs.object_order.ranks_by_object.Goals as goal
 
-pub objects-init : goal.objects-init
-objects-init c = ranked_none c.args.nodes c.args.kinds.now c.args.objects.now c.in_ok-ranks.ranks.items
+pub index_mut-requires : goal.index_mut-requires
+index_mut-requires c =
+    let within = c.requires.nodes c.kinds.place c.in-Node.half c.in-Node.rank c.kinds-test.true c.in-Node.is in
+    let long = c.kinds.invariant.long in
+    omega (arith, within, long)
 
-pub objects-preserved-then-object-nodes : goal.objects-preserved-then-object-nodes
-objects-preserved-then-object-nodes c = ranked_skipped c.args.nodes c.args.kinds.now c.args.objects.now c.objects.ranks.items c.objects.place c.objects.invariant c.if-object-nodes.true
-
-pub objects-preserved : goal.objects-preserved
-objects-preserved c =
-    let inside : slice_index c.args.objects.now c.objects.place < length c.objects.ranks.items = search rules in
-    ranked_one c.args.nodes c.args.kinds.now c.args.objects.now c.objects.ranks.items
-    (slice_set c.objects.ranks.items (slice_index c.args.objects.now c.objects.place) (slice_index_or c.args.kinds.now c.objects.place (0, 0)).1) c.objects.place c.requires.permute c.objects.invariant c.objects-test.true inside refl
-
-pub returns-clause-ranked : goal.returns-clause-ranked
-returns-clause-ranked c = λ place less node. c.objects.invariant.ranked place (let past = c.objects-test.false in omega (arith, less, past)) node
+pub kinds-preserved : goal.kinds-preserved
+kinds-preserved c =
+    ranked_one c.args.nodes c.args.kinds.now c.args.objects.now c.kinds.ranks.items (slice_set c.kinds.ranks.items (slice_index c.args.objects.now c.kinds.place) c.in-Node.rank) c.kinds.place c.in-Node.half c.in-Node.rank c.requires.permute
+    c.kinds.invariant (let less = c.kinds-test.true in let long = c.requires.as_long in omega (arith, less, long)) (c.requires.nodes c.kinds.place c.in-Node.half c.in-Node.rank c.kinds-test.true c.in-Node.is) c.in-Node.is refl

@@ -1,5 +1,5 @@
-use Rattle.pm_planting.proofs.PlaneLaws.{plane_planted_blossoming}
+use Rattle.pm_planting.proofs.KindLaws.{halves_few, kinds_blossoming}
 use Rattle.pm_planting.proofs.planting.plant_plane.Goals as goal
 
 pub of_word-requires : goal.of_word-requires
-of_word-requires c = plane_planted_blossoming c.args.halves.now c.args.ranks.now c.args.objects.now c.in_ok-letters.letters.items c.requires.halves c.in_ok-letters.ensures c.requires.few
+of_word-requires c = kinds_blossoming c.args.kinds.now c.in_ok-letters.letters.items c.in_ok-letters.ensures (halves_few c.args.kinds.now c.requires.each) c.requires.few

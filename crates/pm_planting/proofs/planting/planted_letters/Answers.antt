@@ -1,67 +1,55 @@
-use Rattle.std.proofs.Common.{rules, ℕ, ◌+◌, ◌-◌, ◌*◌, ◌<◌, ◌++◌, List, reverse, ap, ◌∙◌, arith, length, vec_len}
-use Rattle.std.specs.Prelude.{slice_index}
-use Rattle.pm_planting.proofs.PlaneSteps.{root_within, half_degree_at, begun_start, begun_plain, next_within, begun_leaf, begun_node}
+use Rattle.std.proofs.Common.{rules, ℕ, ◌+◌, ◌-◌, ◌*◌, ◌<◌, ◌++◌, List, reverse, ap, ◌∙◌, arith, length, slice_index_or, vec_len}
+use Rattle.pm_planting.specs.Kinds.{half_of}
+use Rattle.pm_planting.specs.declared.kind.Kind.TheVariants.{Leaf}
+use Rattle.pm_planting.proofs.KindLaws.{half_few}
+use Rattle.pm_planting.proofs.KindPatterns.{kind_here, no_node}
+use Rattle.pm_planting.proofs.PlaneSteps.{root_is_node, begun_start, begun_plain, next_within, begun_leaf, begun_node}
 use Rattle.pm_planting.proofs.planting.planted_letters.Goals as goal
 
-pub bounds-ranks-root : goal.bounds-ranks-root
-bounds-ranks-root c =
-    let l = root_within c.args.halves.now c.args.ranks.now c.args.objects.now c.requires.halves c.requires.ranks c.requires.some c.requires.good in
-    omega (arith, l, c.requires.ranked)
-
-pub bounds-halves-root : goal.bounds-halves-root
-bounds-halves-root c = root_within c.args.halves.now c.args.ranks.now c.args.objects.now c.requires.halves c.requires.ranks c.requires.some c.requires.good
-
-pub add_pattern-requires-clause-half : goal.add_pattern-requires-clause-half
-add_pattern-requires-clause-half c =
-    let l = root_within c.args.halves.now c.args.ranks.now c.args.objects.now c.requires.halves c.requires.ranks c.requires.some c.requires.good in
-    half_degree_at c.args.halves.now (slice_index c.args.objects.now 0) c.requires.halves l
-
-pub add_pattern-requires-clause-rank : goal.add_pattern-requires-clause-rank
-add_pattern-requires-clause-rank c =
-    let l = root_within c.args.halves.now c.args.ranks.now c.args.objects.now c.requires.halves c.requires.ranks c.requires.some c.requires.good in
-    c.requires.ranks (slice_index c.args.objects.now 0) l
+pub unreachable-requires : goal.unreachable-requires
+unreachable-requires c = root_is_node c.args.kinds.now c.requires.each c.requires.some c.requires.good c.in-Leaf.is
 
 pub letters-init : goal.letters-init
 letters-init c =
-    let p = c.in_ok-add_pattern.ensures.pattern in
-    begun_start c.args.halves.now c.args.ranks.now c.args.objects.now c.new-letters.result.items p.0 c.add_pattern.new.ahead.items c.requires.halves c.requires.ranks c.requires.some c.requires.good c.new-letters.ensures.items p.1
+    let p = c.in_ok-add_pattern-in-Node.ensures.pattern in
+    begun_start c.args.kinds.now c.new-letters.result.items p.0 c.add_pattern.new.ahead.items c.requires.each c.requires.some c.requires.good c.new-letters.ensures.items (kind_here c.in-Node.half c.in-Node.rank (slice_index_or c.args.kinds.now 0 Leaf) p.0 c.in-Node.is p.1)
     (p.2 ∙ ap (λ (xs : List ℕ). xs ++ reverse p.0) c.new-ahead.ensures.items)
 
 pub letters-preserved-then-letter-ne-SLOT : goal.letters-preserved-then-letter-ne-SLOT
 letters-preserved-then-letter-ne-SLOT c =
-    begun_plain c.args.halves.now c.args.ranks.now c.args.objects.now c.letters.letters.items c.push.new.self.items c.letters.ahead.items c.pop.new.self.items c.letters.next c.in-Some.letter c.letters.invariant
-    c.in-Some.ensures.items c.if-letter-ne-SLOT.true c.in_ok-push.ensures.items
+    begun_plain c.args.kinds.now c.letters.letters.items c.letters.ahead.items c.pop.new.self.items c.letters.next c.in-Some.letter c.letters.invariant c.in-Some.ensures.items c.push.new.self.items
+    c.if-letter-ne-SLOT.true c.in_ok-push.ensures.items
 
-pub offset_bounds-objects-next : goal.offset_bounds-objects-next
-offset_bounds-objects-next c =
-    let l = next_within c.args.halves.now c.args.ranks.now c.args.objects.now c.letters.letters.items c.letters.ahead.items c.pop.new.self.items c.letters.next c.in-Some.letter c.letters.invariant c.in-Some.ensures.items c.if-letter-ne-SLOT.false in
+pub offset_bounds-kinds-next : goal.offset_bounds-kinds-next
+offset_bounds-kinds-next c =
+    let l = next_within c.args.kinds.now c.letters.letters.items c.letters.ahead.items c.pop.new.self.items c.letters.next c.in-Some.letter c.letters.invariant c.in-Some.ensures.items c.if-letter-ne-SLOT.false in
     search rules
 
-pub bounds-objects-next : goal.bounds-objects-next
-bounds-objects-next c =
-    next_within c.args.halves.now c.args.ranks.now c.args.objects.now c.letters.letters.items c.letters.ahead.items c.pop.new.self.items c.letters.next c.in-Some.letter c.letters.invariant c.in-Some.ensures.items c.if-letter-ne-SLOT.false
+pub bounds-kinds-next : goal.bounds-kinds-next
+bounds-kinds-next c =
+    next_within c.args.kinds.now c.letters.letters.items c.letters.ahead.items c.pop.new.self.items c.letters.next c.in-Some.letter c.letters.invariant c.in-Some.ensures.items c.if-letter-ne-SLOT.false
 
 pub overflow_add-next : goal.overflow_add-next
 overflow_add-next c =
-    let l = next_within c.args.halves.now c.args.ranks.now c.args.objects.now c.letters.letters.items c.letters.ahead.items c.pop.new.self.items c.letters.next c.in-Some.letter c.letters.invariant c.in-Some.ensures.items c.if-letter-ne-SLOT.false in
+    let l = next_within c.args.kinds.now c.letters.letters.items c.letters.ahead.items c.pop.new.self.items c.letters.next c.in-Some.letter c.letters.invariant c.in-Some.ensures.items c.if-letter-ne-SLOT.false in
     search rules
 
-pub letters-preserved-then-object-halves : goal.letters-preserved-then-object-halves
-letters-preserved-then-object-halves c =
-    begun_leaf c.args.halves.now c.args.ranks.now c.args.objects.now c.letters.letters.items c.push-then-object-halves.new.self.items c.letters.ahead.items c.pop.new.self.items c.letters.next (c.letters.next + 1) c.in-Some.letter c.letters.invariant
-    c.in-Some.ensures.items c.if-letter-ne-SLOT.false c.if-object-halves.true c.in_ok-push-2.ensures.items (omega arith)
+pub letters-preserved-in_default-kind : goal.letters-preserved-in_default-kind
+letters-preserved-in_default-kind c =
+    begun_leaf c.args.kinds.now c.letters.letters.items c.letters.ahead.items c.pop.new.self.items c.letters.next c.in-Some.letter c.letters.invariant c.in-Some.ensures.items c.push-in_default-kind.new.self.items (c.letters.next + 1)
+    c.if-letter-ne-SLOT.false (no_node (slice_index_or c.args.kinds.now c.letters.next Leaf) c.in_default-kind.not-Node) c.in_ok-push-2.ensures.items (omega arith)
 
 pub letters-smaller : goal.letters-smaller
 letters-smaller c =
-    let l = next_within c.args.halves.now c.args.ranks.now c.args.objects.now c.letters.letters.items c.letters.ahead.items c.pop.new.self.items c.letters.next c.in-Some.letter c.letters.invariant c.in-Some.ensures.items c.if-letter-ne-SLOT.false in
-    let h = half_degree_at c.args.halves.now (slice_index c.args.objects.now c.letters.next) c.requires.halves c.if-object-halves.false in
-    let falls : 65 * (length c.args.objects.now - (c.letters.next + 1)) + vec_len c.add_pattern-in-Some.new.ahead < 65 * (length c.args.objects.now - c.letters.next) + vec_len c.letters.ahead =
-    omega (arith, l, h.few, c.in_ok-add_pattern-2.ensures.len, c.in_ok-push-4.ensures.len, c.in-Some.ensures.cases) in falls
+    let l = next_within c.args.kinds.now c.letters.letters.items c.letters.ahead.items c.pop.new.self.items c.letters.next c.in-Some.letter c.letters.invariant c.in-Some.ensures.items c.if-letter-ne-SLOT.false in
+    let few = half_few (slice_index_or c.args.kinds.now c.letters.next Leaf) (c.requires.each c.letters.next Leaf l) in
+    let half = ap half_of c.in-Node-kind.is in
+    let falls : 65 * (length c.args.kinds.now - (c.letters.next + 1)) + vec_len c.add_pattern-in-Some.new.ahead < 65 * (length c.args.kinds.now - c.letters.next) + vec_len c.letters.ahead =
+    omega (arith, l, few, half, c.in_ok-add_pattern.ensures.len, c.in_ok-push-4.ensures.len, c.in-Some.ensures.cases) in falls
 
 pub letters-preserved : goal.letters-preserved
 letters-preserved c =
-    let h = half_degree_at c.args.halves.now (slice_index c.args.objects.now c.letters.next) c.requires.halves c.if-object-halves.false in
-    let p = c.in_ok-add_pattern-2.ensures.pattern in
-    begun_node c.args.halves.now c.args.ranks.now c.args.objects.now c.letters.letters.items c.push-in-Some.new.self.items c.letters.ahead.items c.pop.new.self.items p.0 c.add_pattern-in-Some.new.ahead.items
-    c.letters.next (c.letters.next + 1) c.in-Some.letter c.letters.invariant c.in-Some.ensures.items c.if-letter-ne-SLOT.false h.some c.in_ok-push-3.ensures.items p.1
+    let p = c.in_ok-add_pattern.ensures.pattern in
+    begun_node c.args.kinds.now c.letters.letters.items c.letters.ahead.items c.pop.new.self.items c.letters.next c.in-Some.letter c.letters.invariant c.in-Some.ensures.items c.push-in-Some.new.self.items p.0 c.add_pattern-in-Some.new.ahead.items
+    (c.letters.next + 1) c.if-letter-ne-SLOT.false (kind_here c.in-Node-kind.half c.in-Node-kind.rank (slice_index_or c.args.kinds.now c.letters.next Leaf) p.0 c.in-Node-kind.is p.1) c.in_ok-push-3.ensures.items
     (p.2 ∙ ap (λ (xs : List ℕ). xs ++ reverse p.0) c.in_ok-push-4.ensures.items) (omega arith)

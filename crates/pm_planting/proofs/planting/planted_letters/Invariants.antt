@@ -3,7 +3,7 @@ use Rattle.pm_planting.proofs.PlaneSteps.{IsBegun}
 use Rattle.pm_planting.proofs.planting.planted_letters.Given as goal
 
 abbrev pub invariant-letters : goal.invariant-letters
-invariant-letters l = IsBegun l.halves l.ranks l.objects l.letters.items l.ahead.items l.next
+invariant-letters l = IsBegun l.kinds l.letters.items l.ahead.items l.next
 
 abbrev pub decreases-letters : goal.decreases-letters
-decreases-letters l = 65 * (length l.objects - l.next) + vec_len l.ahead
+decreases-letters l = 65 * (length l.kinds - l.next) + vec_len l.ahead
