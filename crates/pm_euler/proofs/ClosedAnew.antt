@@ -1,5 +1,7 @@
 -- A blossoming tree is planted anew at each of its two free leaves, and is closed there.
 use Rattle.std.proofs.Common.{ℕ, ◌<◌, List, take, refl}
+use Rattle.pm_match.proofs.FreeMarks.{free_marks}
+use Rattle.pm_trees.proofs.PlantedAt.{chosen_exists, anew_from, anew_blossoms}
 use Rattle.pm_trees.specs.declared.letters.TheConstants.{LEAF}
 use Rattle.pm_trees.specs.Word.{contour, count}
 use Rattle.pm_trees.specs.Blossoming.{IsBlossoming}
@@ -17,8 +19,8 @@ use Rattle.pm_close.proofs.PlaneMap.{rooted_closure}
 use Rattle.pm_close.proofs.SomeClosure.{each_tree_closes}
 use Rattle.pm_euler.specs.PlantedAnew.{IsFreeLeaf, IsPlantedAnew}
 use Rattle.pm_euler.specs.Sampled.{IsClosedAnew}
-use Rattle.pm_euler.proofs.FreeLeaves.{free_leaf_exists, free_leaf_numbered, anew_from}
-use Rattle.pm_euler.proofs.OneSample.{anew_blossoms, anew_balances}
+use Rattle.pm_euler.proofs.FreeLeaves.{free_leaf_numbered}
+use Rattle.pm_euler.proofs.OneSample.{anew_balances}
 
 -- the tree planted anew at its free leaf of a number, its old plant, and the canonical map of its closure
 pub record HasClosure (word : List ℕ) (free : ℕ) : Type 0 where
@@ -35,7 +37,7 @@ record IsAnew (word : List ℕ) (free : ℕ) : Type 0 where
 -- each of the two free leaves has such a tree
 planted_anew : (word : List ℕ) (free : ℕ) → IsBlossoming word → free < 2 → IsAnew word free
 planted_anew word free tree few =
-    let found : (place : ℕ) × IsFreeLeaf (contour word) free place = free_leaf_exists word free tree few in
+    let found : (place : ℕ) × IsFreeLeaf (contour word) free place = chosen_exists (IsFree (contour word)) (free_marks.two word tree) free few in
     let leaf : ℕ = count LEAF (take found.0 (contour word)) in
     let numbered : IsLeafAt (contour word) leaf found.0 = free_leaf_numbered (contour word) free found.0 leaf found.1 refl in
     let replanted : (replanted : List ℕ) × IsReplanted word leaf replanted = each_leaf word leaf tree (leaf_few (contour word) leaf found.0 numbered) in

@@ -1,19 +1,19 @@
 -- The opening of a map, with one of its leaves as the old plant, comes from a tree and one of its free leaves.
-use Rattle.std.proofs.Common.{◌≡◌, ℕ, suc, ◌/◌, ◌<◌, inl, inr, List, length, take, sym, ◌∙◌, ap, subst, arith}
+use Rattle.std.proofs.Common.{◌≡◌, ℕ, ◌<◌, inl, inr, List, length, take, sym, ◌∙◌, ap, subst}
+use Rattle.pm_match.proofs.FreeMarks.{free_two, free_marks}
+use Rattle.pm_trees.proofs.PlantedAt.{later_chosen, has_number, earlier_chosen, anew_back, anew_alike}
 use Rattle.pm_limits.specs.declared.TheConstants.{MAX_DEGREE}
 use Rattle.pm_trees.specs.declared.letters.TheConstants.{LEAF}
 use Rattle.pm_trees.specs.Word.{contour, count}
-use Rattle.pm_trees.specs.Blossoming.{IsBlossoming, leaves, edges}
+use Rattle.pm_trees.specs.Blossoming.{IsBlossoming, leaves}
 use Rattle.pm_trees.specs.Degrees.{nodes_of}
 use Rattle.pm_trees.specs.Leaves.{IsLeafAt}
 use Rattle.pm_trees.specs.Replanted.{IsReplanted}
 use Rattle.pm_trees.specs.Replanting.{IsAlike, leaf_after}
-use Rattle.pm_trees.proofs.Balance.{two_more_leaves}
 use Rattle.pm_trees.proofs.LeafTurns.{one_leaf}
-use Rattle.pm_trees.proofs.Replants.{each_leaf, replanted_alike, replanting_undone, leaf_back}
+use Rattle.pm_trees.proofs.Replants.{each_leaf, replanted_alike, replanting_undone}
 use Rattle.pm_match.specs.Pair.{IsFree, IsBalanced}
 use Rattle.pm_match.specs.Pairing.{Pairs, IsPairing}
-use Rattle.pm_match.proofs.Paired.{pairing_exists}
 use Rattle.pm_match.proofs.PairTurns.{free_leaf_balances}
 use Rattle.pm_map.specs.Rotation.{RotationSystem, structure_of, IsRootedMap}
 use Rattle.pm_map.specs.ClassRules.{AllAdmitted}
@@ -22,35 +22,11 @@ use Rattle.pm_map.specs.declared.admitted.Degrees.TheVariants.{EvenUpTo}
 use Rattle.pm_map.specs.Canonical.{IsCanonical, IsCanonicalOf}
 use Rattle.pm_map.proofs.SameMaps.{same_as_itself, same_symmetric, same_transitive}
 use Rattle.pm_open.specs.Opening.{IsOpening}
-use Rattle.pm_open.proofs.KeptByOpening.{kept_degrees, kept_edges}
+use Rattle.pm_open.proofs.KeptByOpening.{kept_degrees}
 use Rattle.pm_open.proofs.SomeOpening.{each_map_opens}
 use Rattle.pm_euler.specs.Closed.{IsCanonicalClosure}
-use Rattle.pm_euler.specs.PlantedAnew.{IsChosen, IsFreeLeaf, IsPlantedAt}
+use Rattle.pm_euler.specs.PlantedAnew.{IsFreeLeaf}
 use Rattle.pm_euler.specs.Unplanted.{IsUnplanted}
-use Rattle.pm_euler.proofs.FreeLeaves.{first_is_free, second_is_free, anew_from}
-use Rattle.pm_euler.proofs.OneSample.{anew_alike}
-
--- a free leaf and its number
-record IsNumbered (places : List ℕ) (place : ℕ) : Type 0 where
-  free : ℕ
-  few : free < 2
-  is_free : IsFreeLeaf places free place
-
-has_number : (word : List ℕ) (place : ℕ) → IsBlossoming word → IsFree (contour word) place → IsNumbered (contour word) place
-has_number word place tree is =
-    let found : (pairing : Pairs) × IsPairing (contour word) pairing = pairing_exists word (two_more_leaves word tree) in
-    elim (found.1.no_third place is) [
-      | inl e ↦ record { free = 0; few = omega arith; is_free = subst (IsFreeLeaf (contour word) 0) (sym e) (first_is_free (contour word) found.0 found.1) }
-      | inr e ↦ record { free = 1; few = omega arith; is_free = subst (IsFreeLeaf (contour word) 1) (sym e) (second_is_free (contour word) found.0 found.1) }
-    ]
-
--- a tree replanted at one of its leaves, planted anew at a chosen leaf that is its plant from before, is as it was
-pub anew_back : (chosen : List ℕ → ℕ → Type 0) (turned : List ℕ) (old : ℕ) (word : List ℕ) (free place : ℕ) → IsBlossoming turned → old < leaves turned → IsReplanted turned old word
-    → IsLeafAt (contour word) (leaf_after turned old 0) place → IsChosen (chosen (contour word)) free place → IsPlantedAt chosen word free turned old
-anew_back chosen turned old word free place tree few r numbered is =
-    let alike : IsAlike turned word = replanted_alike turned old word tree r in
-    subst (IsPlantedAt chosen word free turned) (leaf_back turned word old alike.leaves_are few)
-    (anew_from chosen word free (leaf_after turned old 0) place turned alike.blossoming is numbered (replanting_undone turned old word tree r))
 
 -- where it was balanced, its plant from before is free
 pub plant_is_free : (turned : List ℕ) (old : ℕ) (word : List ℕ) (place : ℕ) → IsBlossoming turned → IsBalanced (contour turned) → IsReplanted turned old word
@@ -82,12 +58,12 @@ pub opening_unplants : (map : RotationSystem) (turned : List ℕ) (old : ℕ) �
 opening_unplants map turned old is few =
     let replanted : (word : List ℕ) × IsReplanted turned old word = each_leaf turned old is.blossoming few in
     let undone : IsReplanted replanted.0 (leaf_after turned old 0) turned = replanting_undone turned old replanted.0 is.blossoming replanted.1 in
-    let free = has_number replanted.0 undone.start (replanted_alike turned old replanted.0 is.blossoming replanted.1).blossoming
+    let free = has_number (IsFree (contour replanted.0)) (free_marks.two replanted.0 (replanted_alike turned old replanted.0 is.blossoming replanted.1).blossoming) undone.start
     (plant_is_free turned old replanted.0 undone.start is.blossoming is.balanced replanted.1 undone.is_start) in
     record {
       word = replanted.0;
-      free = free.free;
-      is = unplanted_from map turned old replanted.0 free.free undone.start is few replanted.1 undone.is_start free.is_free free.few;
+      free = free.number;
+      is = unplanted_from map turned old replanted.0 free.number undone.start is few replanted.1 undone.is_start free.is free.low;
     }
 
 -- so a rooted map with a dart and even degrees has one for each number below the leaves of its opening
@@ -113,7 +89,7 @@ unplanted_closes map canonical old word free rooted named is = record {
 pub canonical_closes : (map : RotationSystem) (old : ℕ) (word : List ℕ) (free : ℕ) → IsRootedMap map → IsCanonical map → (is : IsUnplanted map old word free) → IsCanonicalClosure is.turned map
 canonical_closes map old word free rooted canonical is = unplanted_closes map map old word free rooted (record { is_canonical = canonical; is_same = same_as_itself (structure_of map) }) is
 
--- of each degree the tree has as many nodes as the map has vertices, and the map has as many edges as are counted in it
+-- of each degree the tree has as many nodes as the map has vertices
 module _ (map : RotationSystem) (old : ℕ) (word : List ℕ) (free : ℕ) (rooted : IsRootedMap map) (is : IsUnplanted map old word free) where
   alike : IsAlike word is.turned
   alike = anew_alike word free is.turned old is.blossoming is.is_anew
@@ -121,17 +97,14 @@ module _ (map : RotationSystem) (old : ℕ) (word : List ℕ) (free : ℕ) (root
   pub unplanted_degrees : (degree : ℕ) → nodes_of word degree ≡ vertices_of_degree (structure_of map) degree
   unplanted_degrees degree = sym (kept_degrees map is.turned rooted is.is_opening degree ∙ alike.degrees degree)
 
-  pub unplanted_edges : edges word ≡ length map.sigma / 2
-  unplanted_edges = ap (λ (n : ℕ). suc n / 2) (sym alike.letters) ∙ kept_edges map is.turned is.is_opening
-
 -- which of the free leaves the leaf of a number is, as the list of pairs gives them
 pub number_first : (word : List ℕ) (found : Pairs) (leaf place : ℕ) → IsPairing (contour word) found → leaf ≡ count LEAF (take found.first_free (contour word)) → IsLeafAt (contour word) leaf place → IsFreeLeaf (contour word) 0 place
 number_first word found leaf place pairing same numbered =
     let here : IsLeafAt (contour word) leaf found.first_free = record { here = pairing.first.leaf; before = sym same } in
-    subst (IsFreeLeaf (contour word) 0) (one_leaf (contour word) leaf found.first_free place here numbered) (first_is_free (contour word) found pairing)
+    subst (IsFreeLeaf (contour word) 0) (one_leaf (contour word) leaf found.first_free place here numbered) (earlier_chosen (IsFree (contour word)) (free_two (contour word) found pairing))
 
 pub number_second : (word : List ℕ) (found : Pairs) (leaf place : ℕ) → IsPairing (contour word) found → (count LEAF (take found.first_free (contour word)) ≡ leaf → ⊥) → IsLeafAt (contour word) leaf place → IsFree (contour word) place → IsFreeLeaf (contour word) 1 place
 number_second word found leaf place pairing other numbered free = elim (pairing.no_third place free) [
   | inl e ↦ absurd (other (ap (λ (p : ℕ). count LEAF (take p (contour word))) (sym e) ∙ numbered.before))
-  | inr e ↦ subst (IsFreeLeaf (contour word) 1) (sym e) (second_is_free (contour word) found pairing)
+  | inr e ↦ subst (IsFreeLeaf (contour word) 1) (sym e) (later_chosen (IsFree (contour word)) (free_two (contour word) found pairing))
 ]

@@ -1,5 +1,6 @@
 -- The laws of a class that is sampled by trees, from what it says of the first step.
 use Rattle.std.proofs.Common.{◌-◌, take, length-append, length, ap, ◌≡◌, ℕ, suc, ◌<◌, List, [], ◌∷◌, ◌++◌, refl, ap₂, sym, ◌∙◌, subst, arith}
+use Rattle.pm_trees.proofs.PlantedAt.{anew_alike}
 use Rattle.std.specs.Prelude.{slice_index}
 use Rattle.std.proofs.Math.Seq.{take-append_seam, get_or-append_seam}
 use Rattle.pm_limits.specs.declared.TheConstants.{MAX_DEGREE}
@@ -26,7 +27,7 @@ use Rattle.pm_euler.specs.Sampled.{IsClosedAnew, IsFrontOf, IsMade, SamplesByTre
 use Rattle.pm_euler.specs.Unplanted.{IsUnplanted}
 use Rattle.pm_euler.proofs.ClosedAnew.{closed_anew}
 use Rattle.pm_euler.proofs.ClosedMaps.{canonical_closure_is_rooted}
-use Rattle.pm_euler.proofs.OneSample.{anew_alike, anew_balances, closed_anew_once, old_plant_few}
+use Rattle.pm_euler.proofs.OneSample.{anew_balances, closed_anew_once, old_plant_few}
 use Rattle.pm_euler.proofs.OneUnplanting.{anew_is_once}
 use Rattle.pm_euler.proofs.SomeUnplanting.{anew_exists, canonical_closes, unplanted_closes, unplanted_degrees}
 use Rattle.pm_euler.proofs.TreeNodes.{closure_has, nodes_alike, nodes_of_map, opening_leaves, profile_darts, profile_degrees, profile_leaves}

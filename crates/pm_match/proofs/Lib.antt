@@ -10,3 +10,4 @@ mod Rise
 mod Steps
 pub mod Straight
 mod Turns
+pub mod FreeMarks

@@ -6,6 +6,7 @@ pub mod First
 pub mod Leaves
 pub mod Node
 pub mod Pairs
+pub mod PlantedAt
 pub mod Profile
 pub mod Reading
 pub mod Replanted

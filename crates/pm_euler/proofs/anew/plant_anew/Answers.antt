@@ -1,9 +1,11 @@
 use Rattle.std.proofs.Common.{subst}
 use Rattle.pm_trees.specs.Word.{contour}
+use Rattle.pm_trees.proofs.PlantedAt.{anew_from, chosen_is, plant_is_marked}
 use Rattle.pm_trees.proofs.LeafTurns.{leaf_few}
 use Rattle.pm_match.specs.Pair.{IsFree}
+use Rattle.pm_match.proofs.FreeMarks.{free_marks}
 use Rattle.pm_euler.specs.PlantedAnew.{IsPlantedAnew}
-use Rattle.pm_euler.proofs.FreeLeaves.{free_leaf_inside, free_leaf_numbered, anew_from, anew_balanced, old_number}
+use Rattle.pm_euler.proofs.FreeLeaves.{free_leaf_inside, free_leaf_numbered, old_number}
 use Rattle.pm_euler.proofs.anew.plant_anew.Goals as goal
 
 pub leaves_before-leaf-requires : goal.leaves_before-leaf-requires
@@ -24,4 +26,5 @@ returns-clause-anew c =
 pub returns-clause-balanced : goal.returns-clause-balanced
 returns-clause-balanced c =
     let numbered = free_leaf_numbered (contour c.args.tree.now) c.args.free c.in_ok-place.place c.leaves_before-leaf.result c.in_ok-place.ensures c.leaves_before-leaf.ensures in
-    anew_balanced c.args.tree.now c.args.free c.leaves_before-leaf.result c.in_ok-place.place c.in_ok-replanted.replanted c.letters-letters.ensures.valid c.in_ok-place.ensures numbered c.in_ok-replanted.ensures.replanted
+    plant_is_marked IsFree free_marks c.args.tree.now c.leaves_before-leaf.result c.in_ok-place.place c.in_ok-replanted.replanted c.letters-letters.ensures.valid
+    (chosen_is (IsFree (contour c.args.tree.now)) c.args.free c.in_ok-place.place c.in_ok-place.ensures) numbered c.in_ok-replanted.ensures.replanted
