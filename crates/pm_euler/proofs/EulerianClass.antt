@@ -21,8 +21,7 @@ use Rattle.pm_euler.specs.Eulerian.{MakesEulerian, SamplesEulerian}
 use Rattle.pm_objects.proofs.ObjectCounts.{nodes_by_ranges}
 use Rattle.pm_euler.specs.Objects.{leaves_of_profile, ranges_of}
 use Rattle.pm_objects.proofs.CodeBounds.{code_bounds_low, length-bounds_by_range}
-use Rattle.pm_euler.proofs.EulerianBounds.{eulerian_choices_are, eulerian_choices_fit, eulerian_residues_are, length-eulerian_choices, residues_by_range}
-use Rattle.pm_euler.proofs.EulerianLists.{one_eulerian_list}
+use Rattle.pm_euler.proofs.EulerianBounds.{eulerian_choices_are, eulerian_choices_fit, eulerian_residues_are, length-eulerian_choices}
 use Rattle.pm_euler.proofs.EulerianMaps.{counted_of_degrees}
 use Rattle.pm_euler.proofs.ObjectLemmas.{halves_few}
 

@@ -1,10 +1,10 @@
 -- The ranks of node objects, from the kinds of objects in preorder.
-use Rattle.std.proofs.Common.{◌≡◌, ℕ, suc, ◌-◌, ◌*◌, ◌<◌, List, length, map, get_or, All, refl, ap, sym, ◌∙◌, subst, arith}
+use Rattle.std.proofs.Common.{◌≡◌, ℕ, suc, ◌-◌, ◌*◌, ◌<◌, List, length, map, get_or, All, refl, ap, sym, ◌∙◌, subst, arith, Contains}
 use Rattle.std.specs.Prelude.{slice_index, slice_index_or}
 use Rattle.std.proofs.lemmas.List.{length-map, get_or-map, ext_get_or}
 use Rattle.std.proofs.lemmas.List.FromFn.{get_or-map-range_with_len, length-map-range_with_len}
-use Rattle.pm_perm.specs.Lists.{Stands}
 use Rattle.pm_perm.specs.Permutation.{IsPermutationList}
+use Rattle.pm_perm.proofs.Contained.{contains_at, is_at}
 use Rattle.pm_perm.proofs.InverseLemmas.{place_of, place_of-of_value}
 use Rattle.pm_perm.proofs.Permutations.{reached}
 use Rattle.pm_trees.specs.Binomial.{choose}
@@ -104,24 +104,24 @@ module _ (pairs : List (ℕ × ℕ)) (kinds : List Kind) (objects : List ℕ) (i
       )
 
 -- the rank of an object that stands among objects of the same kinds
-same_rank : (halves ranks others objects : List ℕ) (object : ℕ) → kinds_of halves ranks objects ≡ kinds_of halves others objects → Stands objects object → 0 < arity_of halves object
+same_rank : (halves ranks others objects : List ℕ) (object : ℕ) → kinds_of halves ranks objects ≡ kinds_of halves others objects → Contains objects object → 0 < arity_of halves object
     → slice_index_or ranks object 0 ≡ slice_index_or others object 0
 same_rank halves ranks others objects object same stands some =
-    let here = stands.1.here in
+    let here = is_at objects object stands in
     let at : (some_ranks : List ℕ) → get_or (kinds_of halves some_ranks objects) stands.0 Leaf ≡ kind_of halves some_ranks object =
-    λ some_ranks. get_or-map (kind_of halves some_ranks) objects stands.0 0 Leaf stands.1.within ∙ ap (kind_of halves some_ranks) here in
+    λ some_ranks. get_or-map (kind_of halves some_ranks) objects stands.0 0 Leaf stands.1 ∙ ap (kind_of halves some_ranks) here in
     let kinds : kind_of halves ranks object ≡ kind_of halves others object = sym (at ranks) ∙ ap (λ (ks : List Kind). get_or ks stands.0 Leaf) same ∙ at others in
     let nodes : Node (arity_of halves object) (slice_index_or ranks object 0) ≡ Node (arity_of halves object) (slice_index_or others object 0) = sym (kind_node halves ranks object some) ∙ kinds ∙ kind_node halves others object some in
     cc
 
-pub same_ranks : (halves ranks others objects : List ℕ) → length ranks ≡ length halves → length others ≡ length halves → All IsHalfDegree halves → ((object : ℕ) → object < length halves → Stands objects object)
+pub same_ranks : (halves ranks others objects : List ℕ) → length ranks ≡ length halves → length others ≡ length halves → All IsHalfDegree halves → ((object : ℕ) → object < length halves → Contains objects object)
     → kinds_of halves ranks objects ≡ kinds_of halves others objects → ranks ≡ others
 same_ranks halves ranks others objects long other_long are stand same =
     ext_get_or 0 ranks others (long ∙ sym other_long)
     (λ object less. let inside : object < length halves = omega (arith, less, long) in same_rank halves ranks others objects object same (stand object inside) (are object 0 inside).some)
 
 -- an object stands wherever all of them are
-pub object_stands : (start object : ℕ) (arrangement objects : List ℕ) → IsPermutationList arrangement → objects ≡ turned start arrangement → object < length arrangement → Stands objects object
+pub object_stands : (start object : ℕ) (arrangement objects : List ℕ) → IsPermutationList arrangement → objects ≡ turned start arrangement → object < length arrangement → Contains objects object
 object_stands start object arrangement objects is turned_is less =
     let at = reached (slice_index arrangement) (length arrangement) object is less in
-    subst (λ (os : List ℕ). Stands os object) (sym turned_is) (stands_turned start arrangement object (at.from, record { within = at.below; here = at.value }))
+    subst (λ (os : List ℕ). Contains os object) (sym turned_is) (stands_turned start arrangement object (contains_at arrangement object at.from at.below at.value))

@@ -14,9 +14,6 @@ use Rattle.pm_euler.specs.Bounds.{quartic_fronts, quartic_choices, quartic_resid
 use Rattle.pm_euler.specs.Quartic.{MakesQuartic, quartic_pairs, IsQuarticSize, SamplesQuartic}
 use Rattle.pm_objects.proofs.CodeBounds.{length-code_bounds, code_bounds_low}
 use Rattle.pm_euler.proofs.BoundLemmas.{quartic_choices_are, quartic_choices_fit, quartic_residues_are, length-quartic_choices}
-use Rattle.pm_euler.proofs.OneSample.{one_quartic_sample}
-use Rattle.pm_euler.proofs.QuarticLists.{quartic_darts, each_quartic_pair, one_quartic_list}
-use Rattle.pm_euler.proofs.QuarticSamples.{each_quartic_list_is_sampled}
 use Rattle.pm_euler.proofs.QuarticMaps.{quartic_maps, quartic_darts}
 
 pub quartic_class : (n : ℕ) → IsQuarticSize n → IsTreeClass (quartic_pairs n) (quartic_fronts n) (code_bounds (n + 1)) (quartic_residues n) (λ m. IsQuartic (structure_of m) n) (MakesQuartic n) (λ rest old_plant. old_plant ∷ rest)

@@ -1,6 +1,5 @@
 -- Names for the darts by the order of first mention.
-use Rattle.std.specs.Prelude.{◌≡◌, ◌≢◌, ℕ, ◌+◌, ◌*◌, ◌<◌, ◌≤◌, Bool, List, length, take, slice_index, slice_set}
-use Rattle.pm_map.specs.Meeting.{Stands}
+use Rattle.std.specs.Prelude.{◌≡◌, ◌≢◌, ℕ, ◌+◌, ◌*◌, ◌<◌, ◌≤◌, Bool, List, length, take, slice_index, slice_set, Contains}
 use Rattle.pm_map.specs.Rotation.{twin}
 use Rattle.pm_map.specs.Canonical.{first_mentions}
 use Rattle.pm_canon.specs.steps.Kept.{MarksDarts}
@@ -35,9 +34,9 @@ pub record IsNamingList (old new names : List ℕ) (place name : ℕ) : Type 0 w
   pub seen : List Bool
   pub seen_size : length seen ≡ length names
   pub naming : IsNaming (take place old) seen names name
-  pub unnamed : (d : ℕ) → d < length names → slice_index names d ≡ 4294967295 → Stands (take place old) (twin d) → ⊥
-  pub standing : (d : ℕ) → Stands (take place old) d → slice_index names d ≢ 4294967295
-  pub named : (d : ℕ) → d < length names → slice_index names d ≢ 4294967295 → (Stands (take place old) d → ⊥) → Stands (take place old) (twin d)
+  pub unnamed : (d : ℕ) → d < length names → slice_index names d ≡ 4294967295 → Contains (take place old) (twin d) → ⊥
+  pub standing : (d : ℕ) → Contains (take place old) d → slice_index names d ≢ 4294967295
+  pub named : (d : ℕ) → d < length names → slice_index names d ≢ 4294967295 → (Contains (take place old) d → ⊥) → Contains (take place old) (twin d)
   pub rewritten : AreNamed names old new place
 
 -- the rotation of the renamed map: the name of a dart is followed by the name of the next dart
