@@ -1,17 +1,17 @@
 -- The files of the headline: what `sample` and `unsample` answer to those of a valid list and of a pair of the class, and that
 -- what has an answer is such a file.
-use Rattle.std.proofs.Common.{◌≡◌, ℕ, ◌^◌, ◌<◌, ◌≤◌, List, ◌++◌, ◌∷◌, [], length, refl, ap, subst, arith}
+use Rattle.std.proofs.Common.{◌≡◌, ℕ, ◌≤◌, List, ◌++◌, ◌∷◌, [], length, refl, ap, subst, arith}
 use Rattle.std.specs.Prelude.{codes, Some, Result, Ok, Err, ⊤}
-use Rattle.std.proofs.lemmas.List.Elements.{All-weaker}
 use Rattle.pm_limits.specs.declared.TheConstants.{MAX_EDGES}
 use Rattle.pm_io.specs.declared.TheConstants.{MAX_BYTES}
 use Rattle.pm_text.specs.Broken.{newline}
 use Rattle.pm_lists.specs.ListLine.{AreWords, list_line}
 use Rattle.pm_lists.specs.Valid.{IsValidList}
+use Rattle.pm_lists.proofs.ValidWords.{valid_are_words}
 use Rattle.pm_map.specs.Rotation.{RotationSystem, IsRootedMap}
 use Rattle.pm_mapfile.proofs.CanonicalTexts.{canonical_has_text}
 use Rattle.pm_mapfile.proofs.FileLimits.{within_limit}
-use Rattle.pm_mapfile.proofs.TextLengths.{valid_below, sample_file_few, choices_file_few}
+use Rattle.pm_mapfile.proofs.TextLengths.{sample_file_few, choices_file_few}
 use Rattle.pm_class.specs.declared.sample.UnsampleRefusal.{UnsampleRefusal}
 use Rattle.pm_class.specs.declared.sample.UnsampleRefusal.TheVariants as pair
 use Rattle.pm_class.specs.Unsampling.{IsUnsampling}
@@ -29,7 +29,7 @@ use Rattle.pm_cli.proofs.OneUnsampling.{not_both, one_pair, one_size, not_wrong}
 module _ (at : AtSize) (laws : IsAtSize at) where
   -- a valid list has numbers of 64 bits
   list_fits : (choices bytes : List ℕ) → IsListFile at choices bytes → AreWords choices
-  list_fits choices bytes file = let limits = laws.limits in record { each = valid_below choices at.choice_limits (2 ^ 64) file.valid (All-weaker (λ bound. bound < 2 ^ 64) (λ bound. bound ≤ 2 ^ 64) (λ bound fits. omega (arith, fits)) at.choice_limits limits.choices_fit.each) }
+  list_fits choices bytes file = let limits = laws.limits in valid_are_words choices at.choice_limits file.valid limits.choices_fit
 
   -- so its file isn't too long
   pub list_file_few : (choices bytes : List ℕ) → IsListFile at choices bytes → length bytes ≤ MAX_BYTES

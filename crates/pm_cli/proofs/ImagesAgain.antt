@@ -12,6 +12,7 @@ use Rattle.pm_medial.specs.Medial.{IsMedialMap}
 use Rattle.pm_medial.proofs.MedialSame.{medials_tell}
 use Rattle.pm_medial.proofs.UnmedialLaws.{unmedial_counts}
 use Rattle.pm_medial.proofs.WrittenLemmas.{medial_is_rooted}
+use Rattle.pm_mapfile.proofs.FileLimits.{within_limit}
 use Rattle.pm_general.proofs.DualsOfMaps.{dual_map, dual_map_is, map_to_dual, dual_back}
 use Rattle.pm_general.proofs.GeneralClass.{medial_map, medial_map_is}
 use Rattle.pm_cli.specs.declared.command.MapTask.TheVariants.{Print}
@@ -20,10 +21,9 @@ use Rattle.pm_cli.specs.declared.command.Reader.TheVariants.{OfMap}
 use Rattle.pm_cli.specs.Answer.{AnswersReader}
 use Rattle.pm_cli.specs.Laws.{DualsReturn, MedialsReturn, UnmedialsReturn}
 use Rattle.pm_cli.specs.MapAnswers.{HasMap, told, HasCanonicalText, HasTextOf, has_medial, has_unmedial, task_relation}
-use Rattle.pm_cli.proofs.OneMapAnswer.{one_map}
+use Rattle.pm_cli.proofs.OneMapAnswer.{one_map, rooted_map}
 use Rattle.pm_cli.proofs.OpenedAgain.{told_map}
 use Rattle.pm_cli.proofs.PrintedAgain.{read_back, medial_text, unmedial_text}
-use Rattle.pm_cli.proofs.SampledAgain.{within_more}
 
 -- the map of a map file, by what is answered to it within a limit, and the text that `canon` answers
 record AreOfOneMap (P : RotationSystem → Type 0) (canonical : List ℕ) : Type 0 where
@@ -32,10 +32,11 @@ record AreOfOneMap (P : RotationSystem → Type 0) (canonical : List ℕ) : Type
   holds : P map
   is_text : HasCanonicalText map canonical
 
-one_file : (limit : ℕ) (P : RotationSystem → Type 0) (bytes canonical : List ℕ) → limit ≤ MAX_EDGES → HasMap bytes limit P → AnswersReader (OfMap (Print Canon)) bytes (Ok canonical) → AreOfOneMap P canonical
-one_file limit P bytes canonical le x canonizes =
+one_file : (limit : ℕ) (P : RotationSystem → Type 0) (bytes canonical : List ℕ) → HasMap bytes limit P → AnswersReader (OfMap (Print Canon)) bytes (Ok canonical) → AreOfOneMap P canonical
+one_file limit P bytes canonical x canonizes =
+    let few = (rooted_map bytes limit x.residue x.map x.answered).few in
     let y = told_map (task_relation (Print Canon)) bytes canonical (Ok canonical) canonizes refl in
-    let wide : HasMap bytes MAX_EDGES P = record { residue = x.residue; map = x.map; answered = within_more bytes limit MAX_EDGES x.residue x.map le x.answered; holds = x.holds } in
+    let wide : HasMap bytes MAX_EDGES P = record { residue = x.residue; map = x.map; answered = within_limit bytes limit MAX_EDGES x.residue x.map few x.answered; holds = x.holds } in
     let same = one_map MAX_EDGES P (λ m. HasCanonicalText m canonical) bytes wide y in
     record { map = y.map; rooted = same.1; holds = subst P same.0 x.holds; is_text = y.holds }
 
@@ -65,7 +66,7 @@ dual_of_same m other again rooted also third of same =
 pub duals_return : DualsReturn AnswersReader
 duals_return bytes text canonical turns canonizes =
     let x = told_map (task_relation (Print Dual)) bytes text (Ok text) turns refl in
-    let one = one_file MAX_EDGES (λ m. HasTextOf IsDualOf m text) bytes canonical (omega arith) x canonizes in
+    let one = one_file MAX_EDGES (λ m. HasTextOf IsDualOf m text) bytes canonical x canonizes in
     let image = one.holds in
     let has = image.is_text in
     let again = has.canonical in
@@ -86,7 +87,7 @@ pub medials_return : MedialsReturn AnswersReader
 medials_return bytes text canonical turns canonizes =
     let relation = task_relation (Print Medial) in
     let x = told_map relation bytes text (Ok text) turns refl in
-    let one = one_file relation.limit (λ m. relation.answers m (Ok text)) bytes canonical (omega arith) x canonizes in
+    let one = one_file relation.limit (λ m. relation.answers m (Ok text)) bytes canonical x canonizes in
     let medial = medial_text one.map text (Ok text) one.holds refl in
     let image = medial.text_of in
     let has = image.is_text in
@@ -115,7 +116,7 @@ pub unmedials_return : UnmedialsReturn AnswersReader
 unmedials_return bytes text canonical turns canonizes =
     let x = told_map (task_relation (Print Unmedial)) bytes text (Ok text) turns refl in
     let relation = task_relation (Print Unmedial) in
-    let one = one_file MAX_EDGES (λ m. relation.answers m (Ok text)) bytes canonical (omega arith) x canonizes in
+    let one = one_file MAX_EDGES (λ m. relation.answers m (Ok text)) bytes canonical x canonizes in
     let unmedial = unmedial_text one.map text (Ok text) one.holds refl in
     let image = unmedial.text_of in
     let of = image.is_image in

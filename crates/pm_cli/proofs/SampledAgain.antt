@@ -12,6 +12,7 @@ use Rattle.pm_class.specs.Unsampling.{IsUnsampled}
 use Rattle.pm_mapfile.specs.Answers.{AnswersFile}
 use Rattle.pm_mapfile.specs.MapFile.{lines_text}
 use Rattle.pm_mapfile.specs.MapText.{IsMapText}
+use Rattle.pm_mapfile.proofs.FileLimits.{within_limit}
 use Rattle.pm_mapfile.proofs.TextLengths.{choices_file_few}
 use Rattle.pm_cli.specs.declared.class.Class.{Class}
 use Rattle.pm_cli.specs.declared.class.Class.TheVariants as class
@@ -77,20 +78,6 @@ most class.Quartic = omega arith
 most class.Eulerian = omega arith
 most class.Bipartite = omega arith
 
--- a map within a limit is within a greater one
-pub within_more : (bytes : List ℕ) (limit more : ℕ) (residue : Option (List ℕ)) (map : RotationSystem) → limit ≤ more → AnswersFile bytes limit residue (Ok map) → AnswersFile bytes more residue (Ok map)
-within_more bytes limit more residue map le file =
-    let told = file.answered in
-    let few = told.few in
-    record {
-      lines = file.lines;
-      are_lines = file.are_lines;
-      rest = file.rest;
-      is_residue = file.is_residue;
-      spelled = file.spelled;
-      answered = record { few = omega arith; sigma = told.sigma; is_rotation = told.is_rotation; answered = told.answered };
-    }
-
 pub sampled_again : AreSamplers → UnsampledPairsReturn AnswersReader
 sampled_again laws c bytes text canonical unsamples canonizes =
     let at : InClass = class_at c in
@@ -98,7 +85,8 @@ sampled_again laws c bytes text canonical unsamples canonizes =
     let of : RotationSystem → List ℕ → Type 0 = λ m residue. HasUnsampledText (at.unsamples m residue) text in
     let x = unsampled_pair at bytes text (Ok text) unsamples refl in
     let residue : List ℕ = x.residue in
-    let wide = within_more bytes at.most_edges MAX_EDGES (Some residue) x.map (most c) x.answered in
+    let few = (rooted_map bytes at.most_edges (Some residue) x.map x.answered).few in
+    let wide = within_limit bytes at.most_edges MAX_EDGES (Some residue) x.map few x.answered in
     let pair_of : HasMap bytes MAX_EDGES (λ m. of m residue) = record { residue = Some residue; map = x.map; answered = wide; holds = x.holds } in
     let same = one_map MAX_EDGES (λ m. of m residue) (λ m. HasCanonicalText m canonical) bytes pair_of y in
     let rooted = subst IsRootedMap (sym same.0) same.1 in

@@ -3,9 +3,8 @@ ghost use Rattle.pm_cli.specs.steps.ClassLaws.{IsSampler};
 ghost use Rattle.pm_cli.specs.Answer.{AnswersReader};
 ghost use Rattle.pm_cli.specs.Laws.{HasOneAnswer, HasSomeAnswer, AnswersByWords, ClosedTreesOpen, OpenedMapsClose, PrintedMapsStay, DualsReturn, MedialsReturn, UnmedialsReturn, SampledListsReturn, SampledMapsAreCounted, UnsampledPairsReturn};
 
+use crate::class_laws::each_class_has_laws;
 use pm_class::MapClass;
-use pm_euler::{Eulerian, Quartic};
-use pm_general::{Bipartite, General};
 
 // The laws of a class, as one bundle.
 pub(crate) fn law<C: MapClass>()
@@ -29,10 +28,7 @@ pub fn words_and_bytes_have_one_answer()
     ensures one { HasOneAnswer }
     ensures some { HasSomeAnswer }
 {
-    law::<General>();
-    law::<Quartic>();
-    law::<Eulerian>();
-    law::<Bipartite>();
+    each_class_has_laws();
 }
 
 /// A law: `open eulerian` gives back the file that `close eulerian` answered, and `close eulerian` the canonical map of the
@@ -66,10 +62,7 @@ pub fn unsampling_undoes_sampling()
     ensures files { SampledListsReturn AnswersReader }
     ensures words { SampledListsReturn AnswersByWords }
 {
-    law::<General>();
-    law::<Quartic>();
-    law::<Eulerian>();
-    law::<Bipartite>();
+    each_class_has_laws();
 }
 
 /// A law: of the file that `unsample` answered for a class, `sample` for the size of the map gives back the canonical map of
@@ -78,10 +71,7 @@ pub fn sampling_undoes_unsampling()
     ensures files { UnsampledPairsReturn AnswersReader }
     ensures words { UnsampledPairsReturn AnswersByWords }
 {
-    law::<General>();
-    law::<Quartic>();
-    law::<Eulerian>();
-    law::<Bipartite>();
+    each_class_has_laws();
 }
 
 /// A law: to what `sample` answered for a size, `check` for the class answers `ok` and how many vertices, edges and faces
@@ -90,8 +80,5 @@ pub fn sampled_maps_are_counted()
     ensures files { SampledMapsAreCounted AnswersReader }
     ensures words { SampledMapsAreCounted AnswersByWords }
 {
-    law::<General>();
-    law::<Quartic>();
-    law::<Eulerian>();
-    law::<Bipartite>();
+    each_class_has_laws();
 }
