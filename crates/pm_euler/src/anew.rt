@@ -55,9 +55,10 @@ fn plant_anew(alloc: Global, tree: &Tree, free: u64) -> Result<PlantedAnew, Allo
     let place = free_leaf(alloc, tree, free)?;
     let leaf = tree.leaves_before(place);
     let replanted = replant(alloc, tree, leaf)?;
+    let leaves = tree.leaves();
     Ok(PlantedAnew {
         tree: replanted,
-        old_plant: (tree.leaves() - leaf) % tree.leaves(),
+        old_plant: (leaves - leaf) % leaves,
     })
 }
 

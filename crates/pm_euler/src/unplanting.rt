@@ -38,7 +38,8 @@ pub(crate) fn unplant(
 {
     let opening = opening_of(alloc, map)?;
     let tree = replant(alloc, &opening, old_plant)?;
-    let plant = (opening.leaves() - old_plant) % opening.leaves();
+    let leaves = opening.leaves();
+    let plant = (leaves - old_plant) % leaves;
     let free = number_of_free(alloc, &tree, plant)?;
     Ok(Unplanted { tree, free })
 }

@@ -19,7 +19,7 @@ replant-requires c =
 pub returns-clause-anew : goal.returns-clause-anew
 returns-clause-anew c =
     let numbered = free_leaf_numbered (contour c.args.tree.now) c.args.free c.in_ok-place.place c.leaves_before-leaf.result c.in_ok-place.ensures c.leaves_before-leaf.ensures in
-    let number = old_number c.args.tree.now c.leaves_before-leaf.result c.leaves.result c.leaves-2.result c.leaves.ensures c.leaves-2.ensures in
+    let number = old_number c.args.tree.now c.leaves_before-leaf.result c.leaves-leaves.result c.leaves-leaves.result c.leaves-leaves.ensures c.leaves-leaves.ensures in
     subst (IsPlantedAnew c.args.tree.now c.args.free c.in_ok-replanted.replanted) number
     (anew_from IsFree c.args.tree.now c.args.free c.leaves_before-leaf.result c.in_ok-place.place c.in_ok-replanted.replanted c.letters-letters.ensures.valid c.in_ok-place.ensures numbered c.in_ok-replanted.ensures.replanted)
 
