@@ -1,5 +1,6 @@
 -- The laws of all classes.
-use Rattle.std.proofs.Common.{◌≡◌, refl}
+use Rattle.std.proofs.Common.{◌≡◌, ◌≤◌, refl, arith}
+use Rattle.pm_limits.specs.declared.TheConstants.{MAX_EDGES}
 use Rattle.pm_cli.specs.declared.class.Class.{Class}
 use Rattle.pm_cli.specs.declared.class.Class.TheVariants as class
 use Rattle.pm_cli.specs.declared.class.Size.{Size}
@@ -42,3 +43,10 @@ laws_at S laws size is = record { one_to_one = laws.one_to_one size is; limits =
 
 pub sized_laws : AreSamplers → (size : Size) → IsSize size → IsAtSize (sized size)
 sized_laws laws size is = by_size (λ class at. IsAtSize at) laws_at laws size is
+
+-- no class has more edges than a map may have
+pub most : (c : Class) → (let at : InClass = class_at c in at.most_edges) ≤ MAX_EDGES
+most class.General = omega arith
+most class.Quartic = omega arith
+most class.Eulerian = omega arith
+most class.Bipartite = omega arith

@@ -72,12 +72,6 @@ unsampled_within laws c bytes text unsamples =
     let given = is.holds in
     omega (arith, ap length pair.is_text.spelled, choices_file_few pair.choices given.few pair.is_text.fit)
 
-pub most : (c : Class) → (let at : InClass = class_at c in at.most_edges) ≤ MAX_EDGES
-most class.General = omega arith
-most class.Quartic = omega arith
-most class.Eulerian = omega arith
-most class.Bipartite = omega arith
-
 pub sampled_again : AreSamplers → UnsampledPairsReturn AnswersReader
 sampled_again laws c bytes text canonical unsamples canonizes =
     let at : InClass = class_at c in

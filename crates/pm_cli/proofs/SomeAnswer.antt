@@ -24,8 +24,7 @@ use Rattle.pm_cli.specs.Commands.{IsReader, Spells, Begins, IsNoCommand}
 use Rattle.pm_cli.specs.Laws.{IsAnswered, HasSomeAnswer}
 use Rattle.pm_cli.specs.MapAnswers.{MapRelation, task_relation}
 use Rattle.pm_cli.specs.steps.ClassLaws.{IsSampler}
-use Rattle.pm_cli.proofs.ClassLaws.{AreSamplers, sized_laws}
-use Rattle.pm_cli.proofs.SampledAgain.{most}
+use Rattle.pm_cli.proofs.ClassLaws.{AreSamplers, sized_laws, most}
 use Rattle.pm_cli.proofs.SomeClosing.{closes_answered}
 use Rattle.pm_cli.proofs.SomeMapAnswer.{map_answered, tasks_are_told, counts_are_told}
 use Rattle.pm_cli.proofs.SomeSampling.{samples_answered, draws_answered, trips_answered}

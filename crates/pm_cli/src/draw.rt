@@ -3,7 +3,7 @@ ghost use Rattle.pm_lists.specs.Valid.{AreBounds};
 ghost use Rattle.pm_draw.specs.Drawn.{words_of, drawn};
 ghost use Rattle.pm_cli.specs.Drawing.{IsRecord, IsDrawing, HasFirstRecords, RecordsGoOn};
 ghost use Rattle.pm_cli.specs.Answer.{AnswersSize};
-ghost use Rattle.pm_cli.specs.Classes.{sized, IsSize};
+ghost use Rattle.pm_cli.specs.Classes.{AtSize, sized, IsSize};
 ghost use Rattle.pm_cli.specs.Ending.{IsFirstRecords};
 ghost use Rattle.pm_cli.specs.steps.Streams.{IsWritingRecords};
 
@@ -11,7 +11,7 @@ use crate::class::Size;
 use crate::command::Maker;
 use crate::refusal::Stop;
 use crate::sample::sample_text;
-use crate::trip::trip_sized;
+use crate::trip::trip;
 use crate::writing::write_text;
 use pm_class::{MapClass, each_list_is_sampled};
 use pm_draw::{draw_list, rng_of};
@@ -90,28 +90,36 @@ fn draw<C: MapClass, O: Sink>(
     }
 }
 
-// The same of any class.
-fn draw_sized<O: Sink>(
+// Does a task with a size of a class, and writes its answer.
+fn make_of<C: MapClass, O: Sink>(
     alloc: Global,
-    size: &Size,
-    seed: u64,
-    count: u64,
+    task: &Maker,
+    size: &C::Size,
     out: &mut O,
 ) -> Result<(), Stop>
-    requires { IsSize size.now }
-    ensures { IsWritingRecords (IsDrawing (sized size.now).choice_limits (sized size.now).samples seed count)
-        (HasFirstRecords (sized size.now).choice_limits (sized size.now).samples seed count)
+    requires { C.is_size size.now }
+    ensures { let at : AtSize = record {
+      is_size = C.is_size size.now;
+      choice_limits = C.choice_limits size.now;
+      residue_limits = C.residue_limits size.now;
+      has = C.has size.now;
+      samples = C.samples size.now;
+    } in IsWritingRecords (λ text. AnswersSize task.now at (Ok text)) (IsFirstRecords task.now at)
         (O.holds out.old) (O.holds out.new) (O.faults out.old) (O.faults out.new) result }
 {
-    match size {
-        Size::General(size) => draw::<General, O>(alloc, size, seed, count, out),
-        Size::Quartic(size) => draw::<Quartic, O>(alloc, size, seed, count, out),
-        Size::Eulerian(profile) => draw::<Eulerian, O>(alloc, profile, seed, count, out),
-        Size::Bipartite(profile) => draw::<Bipartite, O>(alloc, profile, seed, count, out),
+    match task {
+        Maker::Draw { seed, count } => draw::<C, O>(alloc, size, *seed, *count, out),
+        Maker::Trip { seed } => {
+            let text = match trip::<C>(alloc, size, *seed) {
+                Ok(text) => text,
+                Err(_) => return Err(Stop::Memory),
+            };
+            write_text(out, &text)
+        }
     }
 }
 
-// Does a task with a size, and writes its answer.
+// The same of any class.
 pub(crate) fn make<O: Sink>(
     alloc: Global,
     task: &Maker,
@@ -122,14 +130,10 @@ pub(crate) fn make<O: Sink>(
     ensures { IsWritingRecords (λ text. AnswersSize task.now (sized size.now) (Ok text)) (IsFirstRecords task.now (sized size.now))
         (O.holds out.old) (O.holds out.new) (O.faults out.old) (O.faults out.new) result }
 {
-    match task {
-        Maker::Draw { seed, count } => draw_sized(alloc, size, *seed, *count, out),
-        Maker::Trip { seed } => {
-            let text = match trip_sized(alloc, size, *seed) {
-                Ok(text) => text,
-                Err(_) => return Err(Stop::Memory),
-            };
-            write_text(out, &text)
-        }
+    match size {
+        Size::General(size) => make_of::<General, O>(alloc, task, size, out),
+        Size::Quartic(size) => make_of::<Quartic, O>(alloc, task, size, out),
+        Size::Eulerian(profile) => make_of::<Eulerian, O>(alloc, task, profile, out),
+        Size::Bipartite(profile) => make_of::<Bipartite, O>(alloc, task, profile, out),
     }
 }

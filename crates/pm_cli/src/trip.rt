@@ -1,18 +1,18 @@
 ghost use Rattle.std.specs.Prelude.{IfOk};
-ghost use Rattle.pm_cli.specs.Classes.{sized, IsSize};
 ghost use Rattle.pm_cli.specs.Trip.{IsTrip};
 
 use crate::check::counts_text;
-use crate::class::Size;
 use pm_class::{MapClass, unsample_undoes_sample};
 use pm_draw::{draw_list, rng_of};
-use pm_euler::{Eulerian, Quartic};
-use pm_general::{Bipartite, General};
 use std::alloc::{AllocError, Global};
 
 // `trip CLASS SIZE SEED`: draws a list of choices, samples it, and unsamples what it gave. By the laws of the class that is
 // the list that was drawn. The text counts the vertices, edges and faces of the map.
-fn trip<C: MapClass>(alloc: Global, size: &C::Size, seed: u64) -> Result<Vec<u8>, AllocError>
+pub(crate) fn trip<C: MapClass>(
+    alloc: Global,
+    size: &C::Size,
+    seed: u64,
+) -> Result<Vec<u8>, AllocError>
     requires { C.is_size size.now }
     ensures { IfOk result (λ text. IsTrip (C.choice_limits size.now) (C.samples size.now) seed text.items) }
 {
@@ -30,17 +30,4 @@ fn trip<C: MapClass>(alloc: Global, size: &C::Size, seed: u64) -> Result<Vec<u8>
     text.extend_from_slice(b"trip ")?;
     text.extend_from_slice(&counts_text(alloc, &sample.map)?)?;
     Ok(text)
-}
-
-// The same of any class.
-pub(crate) fn trip_sized(alloc: Global, size: &Size, seed: u64) -> Result<Vec<u8>, AllocError>
-    requires { IsSize size.now }
-    ensures { IfOk result (λ text. IsTrip (sized size.now).choice_limits (sized size.now).samples seed text.items) }
-{
-    match size {
-        Size::General(size) => trip::<General>(alloc, size, seed),
-        Size::Quartic(size) => trip::<Quartic>(alloc, size, seed),
-        Size::Eulerian(profile) => trip::<Eulerian>(alloc, profile, seed),
-        Size::Bipartite(profile) => trip::<Bipartite>(alloc, profile, seed),
-    }
 }
