@@ -155,11 +155,11 @@ module _ (word other : List ℕ) (found : Pairs) (letters : All (λ x. IsTrue (i
   pub joined_all : (twins : List ℕ) (k first second : ℕ) → k ≡ length found.pairs → first ≡ found.first_free → second ≡ found.second_free
       → IsJoined (contour word) other found.pairs k twins → IsTwinList (contour word) (set (set twins first second) second first)
   joined_all twins k first second all is_first is_second joined =
-      let first_free : IsFree (contour word) first = subst (λ (q : ℕ). IsFree (contour word) q) (sym is_first) pairing.first in
-      let second_free : IsFree (contour word) second = subst (λ (q : ℕ). IsFree (contour word) q) (sym is_second) pairing.second in
+      let first_free : IsFree (contour word) first = subst (λ (q : ℕ). IsFree (contour word) q) (sym is_first) pairing.free.first_is in
+      let second_free : IsFree (contour word) second = subst (λ (q : ℕ). IsFree (contour word) q) (sym is_second) pairing.free.second_is in
       let first_in : first < length twins = omega (arith, free_within (contour word) first first_free, joined.as_long) in
       let second_in : second < length twins = omega (arith, free_within (contour word) second second_free, joined.as_long) in
-      let less : first < second = omega (arith, pairing.in_order, is_first, is_second) in
+      let less : first < second = omega (arith, pairing.free.in_order, is_first, is_second) in
       let apart : first ≢ second = λ e. differ first second less e in
       record {
         as_long = length-set (set twins first second) second first ∙ length-set twins first second ∙ joined.as_long;

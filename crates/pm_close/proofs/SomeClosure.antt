@@ -31,9 +31,9 @@ some_twin word other found order bracketing pairing p l = elim (letter_cases (sl
     | inl pair ↦ (pair.0, pair_leaf pair.1)
     | inr free ↦ elim free [
       | inl first ↦
-          (found.second_free, free_leaves (subst (IsFree (contour word)) (sym first) pairing.first) pairing.second (λ same. apart found p pairing.in_order first same))
+          (found.second_free, free_leaves (subst (IsFree (contour word)) (sym first) pairing.free.first_is) pairing.free.second_is (λ same. apart found p pairing.free.in_order first same))
       | inr second ↦
-          (found.first_free, free_leaves (subst (IsFree (contour word)) (sym second) pairing.second) pairing.first (λ same. apart found p pairing.in_order same second))
+          (found.first_free, free_leaves (subst (IsFree (contour word)) (sym second) pairing.free.second_is) pairing.free.first_is (λ same. apart found p pairing.free.in_order same second))
     ]
   ]
   | a_bud e ↦ let pair = pairing.each_bud p e in (pair.0, pair_bud pair.1)

@@ -1,5 +1,5 @@
 -- Planting a tree anew at a free leaf.
-use Rattle.std.proofs.Common.{◌≡◌, ℕ, ◌+◌, ◌-◌, ◌%◌, ◌<◌, ◌≤◌, List, length, refl, sym, ap, subst, arith}
+use Rattle.std.proofs.Common.{◌≡◌, ℕ, ◌+◌, ◌-◌, ◌%◌, ◌<◌, ◌≤◌, List, length, refl, sym, subst, arith}
 use Rattle.pm_match.proofs.FreeMarks.{free_two}
 use Rattle.pm_trees.proofs.PlantedAt.{later_chosen, earlier_chosen, chosen_is}
 use Rattle.std.specs.Prelude.{take, slice_index}
@@ -9,19 +9,18 @@ use Rattle.pm_trees.specs.Blossoming.{leaves}
 use Rattle.pm_trees.specs.Leaves.{IsLeafAt}
 use Rattle.pm_trees.specs.Replanting.{leaf_after}
 use Rattle.pm_match.specs.Pair.{IsFree}
-use Rattle.pm_match.specs.Pairing.{Pairs, IsPairing}
+use Rattle.pm_match.specs.FreeLeaves.{AreFreeLeaves}
 use Rattle.pm_match.proofs.Counts.{leaf_within as leaf_inside}
 use Rattle.pm_euler.specs.PlantedAnew.{IsFreeLeaf}
 
--- as the list of pairs gives them
-pub first_chosen : (places : List ℕ) (found : Pairs) (pair : ℕ × ℕ) (free : ℕ) → IsPairing places found → pair ≡ (found.first_free, found.second_free) → free ≡ 0 → IsFreeLeaf places free pair.0
-first_chosen places found pair free pairing e zero =
-    subst (λ (b : ℕ). IsFreeLeaf places b pair.0) (sym zero) (subst (IsFreeLeaf places 0) (sym (ap (λ (p : ℕ × ℕ). p.0) e)) (earlier_chosen (IsFree places) (free_two places found pairing)))
+-- the first of the two has number 0, and the second one number 1
+pub first_chosen : (places : List ℕ) (first second free : ℕ) → AreFreeLeaves places first second → free ≡ 0 → IsFreeLeaf places free first
+first_chosen places first second free two zero = subst (λ (b : ℕ). IsFreeLeaf places b first) (sym zero) (earlier_chosen (IsFree places) (free_two places first second two))
 
-pub second_chosen : (places : List ℕ) (found : Pairs) (pair : ℕ × ℕ) (free : ℕ) → IsPairing places found → pair ≡ (found.first_free, found.second_free) → free < 2 → (free ≡ 0 → ⊥) → IsFreeLeaf places free pair.1
-second_chosen places found pair free pairing e few some =
+pub second_chosen : (places : List ℕ) (first second free : ℕ) → AreFreeLeaves places first second → free < 2 → (free ≡ 0 → ⊥) → IsFreeLeaf places free second
+second_chosen places first second free two few some =
     let one : 1 ≡ free = omega arith in
-    subst (λ (b : ℕ). IsFreeLeaf places b pair.1) one (subst (IsFreeLeaf places 1) (sym (ap (λ (p : ℕ × ℕ). p.1) e)) (later_chosen (IsFree places) (free_two places found pairing)))
+    subst (λ (b : ℕ). IsFreeLeaf places b second) one (later_chosen (IsFree places) (free_two places first second two))
 
 pub free_leaf_letter : (places : List ℕ) (free place : ℕ) → IsFreeLeaf places free place → slice_index places place ≡ LEAF
 free_leaf_letter places free place is = (chosen_is (IsFree places) free place is).leaf

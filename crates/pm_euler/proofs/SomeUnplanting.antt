@@ -13,7 +13,7 @@ use Rattle.pm_trees.specs.Replanting.{IsAlike, leaf_after}
 use Rattle.pm_trees.proofs.LeafTurns.{one_leaf}
 use Rattle.pm_trees.proofs.Replants.{each_leaf, replanted_alike, replanting_undone}
 use Rattle.pm_match.specs.Pair.{IsFree, IsBalanced}
-use Rattle.pm_match.specs.Pairing.{Pairs, IsPairing}
+use Rattle.pm_match.specs.FreeLeaves.{AreFreeLeaves}
 use Rattle.pm_match.proofs.PairTurns.{free_leaf_balances}
 use Rattle.pm_map.specs.Rotation.{RotationSystem, structure_of, IsRootedMap}
 use Rattle.pm_map.specs.ClassRules.{AllAdmitted}
@@ -97,14 +97,14 @@ module _ (map : RotationSystem) (old : ℕ) (word : List ℕ) (free : ℕ) (root
   pub unplanted_degrees : (degree : ℕ) → nodes_of word degree ≡ vertices_of_degree (structure_of map) degree
   unplanted_degrees degree = sym (kept_degrees map is.turned rooted is.is_opening degree ∙ alike.degrees degree)
 
--- which of the free leaves the leaf of a number is, as the list of pairs gives them
-pub number_first : (word : List ℕ) (found : Pairs) (leaf place : ℕ) → IsPairing (contour word) found → leaf ≡ count LEAF (take found.first_free (contour word)) → IsLeafAt (contour word) leaf place → IsFreeLeaf (contour word) 0 place
-number_first word found leaf place pairing same numbered =
-    let here : IsLeafAt (contour word) leaf found.first_free = record { here = pairing.first.leaf; before = sym same } in
-    subst (IsFreeLeaf (contour word) 0) (one_leaf (contour word) leaf found.first_free place here numbered) (earlier_chosen (IsFree (contour word)) (free_two (contour word) found pairing))
+-- which of the free leaves the leaf of a number is
+pub number_first : (word : List ℕ) (first second leaf place : ℕ) → AreFreeLeaves (contour word) first second → leaf ≡ count LEAF (take first (contour word)) → IsLeafAt (contour word) leaf place → IsFreeLeaf (contour word) 0 place
+number_first word first second leaf place two same numbered =
+    let here : IsLeafAt (contour word) leaf first = record { here = two.first_is.leaf; before = sym same } in
+    subst (IsFreeLeaf (contour word) 0) (one_leaf (contour word) leaf first place here numbered) (earlier_chosen (IsFree (contour word)) (free_two (contour word) first second two))
 
-pub number_second : (word : List ℕ) (found : Pairs) (leaf place : ℕ) → IsPairing (contour word) found → (count LEAF (take found.first_free (contour word)) ≡ leaf → ⊥) → IsLeafAt (contour word) leaf place → IsFree (contour word) place → IsFreeLeaf (contour word) 1 place
-number_second word found leaf place pairing other numbered free = elim (pairing.no_third place free) [
+pub number_second : (word : List ℕ) (first second leaf place : ℕ) → AreFreeLeaves (contour word) first second → (count LEAF (take first (contour word)) ≡ leaf → ⊥) → IsLeafAt (contour word) leaf place → IsFree (contour word) place → IsFreeLeaf (contour word) 1 place
+number_second word first second leaf place two other numbered free = elim (two.no_third place free) [
   | inl e ↦ absurd (other (ap (λ (p : ℕ). count LEAF (take p (contour word))) (sym e) ∙ numbered.before))
-  | inr e ↦ subst (IsFreeLeaf (contour word) 1) (sym e) (later_chosen (IsFree (contour word)) (free_two (contour word) found pairing))
+  | inr e ↦ subst (IsFreeLeaf (contour word) 1) (sym e) (later_chosen (IsFree (contour word)) (free_two (contour word) first second two))
 ]

@@ -9,7 +9,7 @@ ghost use Rattle.pm_euler.specs.Sampled.{IsClosedAnew};
 use pm_canon::canon;
 use pm_close::close_balanced;
 use pm_map::RootedMap;
-use pm_match::matching;
+use pm_match::free_leaves;
 use pm_trees::{Tree, replant};
 use std::alloc::{AllocError, Global};
 
@@ -52,7 +52,7 @@ fn plant_anew(alloc: Global, tree: &Tree, free: u64) -> Result<PlantedAnew, Allo
 {
     // Its contract says that they are those of a blossoming tree.
     let _letters = tree.letters();
-    let place = free_leaf(alloc, tree, free)?;
+    let place = free_leaf(tree, free);
     let leaf = tree.leaves_before(place);
     let replanted = replant(alloc, tree, leaf)?;
     let leaves = tree.leaves();
@@ -63,11 +63,10 @@ fn plant_anew(alloc: Global, tree: &Tree, free: u64) -> Result<PlantedAnew, Allo
 }
 
 /// The place of the free leaf of this number.
-fn free_leaf(alloc: Global, tree: &Tree, free: u64) -> Result<u32, AllocError>
+fn free_leaf(tree: &Tree, free: u64) -> u32
     requires { free < 2 }
-    ensures { IfOk result (IsFreeLeaf (contour tree.now) free) }
+    ensures { IsFreeLeaf (contour tree.now) free result }
 {
-    let pairing = matching(alloc, tree)?;
-    let (first, second) = pairing.free();
-    Ok(if free == 0 { first } else { second })
+    let (first, second) = free_leaves(tree);
+    if free == 0 { first } else { second }
 }

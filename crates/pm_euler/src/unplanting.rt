@@ -13,7 +13,7 @@ ghost use Rattle.pm_euler.specs.PlantedAnew.{IsFreeLeaf};
 ghost use Rattle.pm_euler.specs.Unplanted.{IsUnplanted};
 
 use pm_map::RootedMap;
-use pm_match::matching;
+use pm_match::free_leaves;
 use pm_open::{OpenRefusal, open_map};
 use pm_trees::{Tree, replant};
 use std::alloc::{AllocError, Global};
@@ -40,7 +40,7 @@ pub(crate) fn unplant(
     let tree = replant(alloc, &opening, old_plant)?;
     let leaves = opening.leaves();
     let plant = (leaves - old_plant) % leaves;
-    let free = number_of_free(alloc, &tree, plant)?;
+    let free = number_of_free(&tree, plant);
     Ok(Unplanted { tree, free })
 }
 
@@ -58,16 +58,15 @@ fn opening_of(alloc: Global, map: &RootedMap) -> Result<Tree, AllocError>
 }
 
 /// Which of the two free leaves the leaf of this number is, which is free.
-fn number_of_free(alloc: Global, tree: &Tree, leaf: u32) -> Result<u64, AllocError>
+fn number_of_free(tree: &Tree, leaf: u32) -> u64
     requires { (place : ℕ) → IsLeafAt (contour tree.now) leaf place → IsFree (contour tree.now) place }
-    ensures free { IfOk result (λ free. (place : ℕ) → IsLeafAt (contour tree.now) leaf place → IsFreeLeaf (contour tree.now) free place) }
-    ensures few { IfOk result (λ free. free < 2) }
+    ensures free { (place : ℕ) → IsLeafAt (contour tree.now) leaf place → IsFreeLeaf (contour tree.now) result place }
+    ensures few { result < 2 }
 {
-    let pairing = matching(alloc, tree)?;
-    let (first, _) = pairing.free();
-    Ok(if tree.leaves_before(first) == leaf {
+    let (first, _) = free_leaves(tree);
+    if tree.leaves_before(first) == leaf {
         0
     } else {
         1
-    })
+    }
 }

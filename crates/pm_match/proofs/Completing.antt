@@ -199,13 +199,15 @@ pairing_from places waited pairs stack inner free s one h =
       rising = (λ j k p q r t less e f. omega (arith, h.listed.rising j k less (slice_get_within pairs k (r, t) f), (listed_within pairs j p q e).0, (listed_within pairs k r t f).0));
       each_bud = (λ p e. let bud = h.listed.every p (bud_within places p e) e in
           (leaf_at pairs bud.index, subst (λ (a : ℕ). IsPair places a (leaf_at pairs bud.index)) bud.same (is_pair bud.index bud.listed)));
-      in_order = h.loose.rising 0 1 (omega arith) (omega arith);
-      first = h.loose.sound 0 (omega arith);
-      second = h.loose.sound 1 (omega arith);
-      no_third = (λ q is_free. elim (h.loose.whole q (leaf_within places q is_free.leaf) is_free.leaf) [
-        | inl pair ↦ absurd (is_free.alone pair.0 pair.1)
-        | inr there ↦ free_by_index free q two there
-      ]);
+      free = record {
+        in_order = h.loose.rising 0 1 (omega arith) (omega arith);
+        first_is = h.loose.sound 0 (omega arith);
+        second_is = h.loose.sound 1 (omega arith);
+        no_third = (λ q is_free. elim (h.loose.whole q (leaf_within places q is_free.leaf) is_free.leaf) [
+          | inl pair ↦ absurd (is_free.alone pair.0 pair.1)
+          | inr there ↦ free_by_index free q two there
+        ]);
+      };
       one_leaf = pair_unique places;
       one_bud = (λ p q r pair other. pair_unique_leaf places p q r pair other);
       each_leaf = (λ q e. elim (h.loose.whole q (leaf_within places q e) e) [ inl pair ↦ inl pair | inr there ↦ inr (free_by_index free q two there) ]);

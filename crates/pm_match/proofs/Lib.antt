@@ -11,3 +11,4 @@ mod Steps
 pub mod Straight
 mod Turns
 pub mod FreeMarks
+mod RecordLows

@@ -135,5 +135,5 @@ same_of_two a b p q r (inr e) (inr f) g n m = absurd (n (e ∙ sym f))
 pub at_most_two_free : (word : List ℕ) → count LEAF (contour word) ≡ count BUD (contour word) + 2 → (p q r : ℕ) → IsFree (contour word) p → IsFree (contour word) q → IsFree (contour word) r → p ≢ q → p ≢ r → q ≡ r
 at_most_two_free word s p q r p_free q_free r_free n m =
     let pairing = pairing_exists word s in
-    let each = pairing.1.no_third in
+    let each = pairing.1.free.no_third in
     same_of_two pairing.0.first_free pairing.0.second_free p q r (each p p_free) (each q q_free) (each r r_free) n m

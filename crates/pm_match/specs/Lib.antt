@@ -1,3 +1,4 @@
+pub mod FreeLeaves
 pub mod Pair
 pub mod Pairing
 pub mod Turning

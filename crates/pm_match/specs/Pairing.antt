@@ -1,7 +1,8 @@
 -- All pairs of a contour, and its two free leaves.
 use Rattle.std.specs.Prelude.{◌≡◌, ℕ, ◌<◌, ◌⊎◌, List, slice_index, slice_get, Some}
 use Rattle.pm_trees.specs.declared.letters.TheConstants.{LEAF, BUD}
-use Rattle.pm_match.specs.Pair.{IsPair, IsFree}
+use Rattle.pm_match.specs.Pair.{IsPair}
+use Rattle.pm_match.specs.FreeLeaves.{AreFreeLeaves}
 
 -- the list of pairs, the bud before its leaf, and the two free leaves
 pub record Pairs : Type 0 where
@@ -19,7 +20,4 @@ pub record IsPairing (places : List ℕ) (found : Pairs) : Type 0 where
   pub one_leaf : (p q r : ℕ) → IsPair places p q → IsPair places p r → q ≡ r
   pub each_leaf : (q : ℕ) → slice_index places q ≡ LEAF → ((p : ℕ) × IsPair places p q) ⊎ ((q ≡ found.first_free) ⊎ (q ≡ found.second_free))
   pub one_bud : (p q r : ℕ) → IsPair places p r → IsPair places q r → p ≡ q
-  pub in_order : found.first_free < found.second_free
-  pub first : IsFree places found.first_free
-  pub second : IsFree places found.second_free
-  pub no_third : (q : ℕ) → IsFree places q → (q ≡ found.first_free) ⊎ (q ≡ found.second_free)
+  pub free : AreFreeLeaves places found.first_free found.second_free

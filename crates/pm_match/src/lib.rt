@@ -3,10 +3,12 @@
 
 mod balance;
 mod laws;
+mod lows;
 mod pairing;
 
 pub use balance::{is_balanced, plant_bud};
 pub use laws::pairs_are_turned;
+pub use lows::free_leaves;
 pub use pairing::{Pairing, matching};
 
 #[cfg(test)]

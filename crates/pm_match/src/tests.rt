@@ -20,6 +20,7 @@ fn pairs_buds_and_leaves(rt: HostRuntime) -> Result<(), Fail> {
         let tree = read_tree(rt.alloc(), word)?;
         let pairing = matching(rt.alloc(), &tree)?;
         assert_eq!(rt; (pairing.pairs(), pairing.free()), (pairs, free));
+        assert_eq!(rt; free_leaves(&tree), free);
         assert_eq!(rt;
             (plant_bud(&tree), is_balanced(&tree)),
             (bud, bud.is_none())

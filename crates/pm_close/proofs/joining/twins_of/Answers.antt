@@ -20,7 +20,7 @@ loop-pair-preserved c =
 pub index_mut-requires-3 : goal.index_mut-requires-3
 index_mut-requires-3 c =
     let second = ap (λ (p : ℕ × ℕ). p.1) c.free-first.ensures in
-    omega (arith, second, free_within _ _ c.requires.pairing.second, c.loop-pair.invariant.as_long)
+    omega (arith, second, free_within _ _ c.requires.pairing.free.second_is, c.loop-pair.invariant.as_long)
 
 pub returns : goal.returns
 returns c =
