@@ -23,7 +23,7 @@ fn other_brackets(alloc: Global, word: &[u8]) -> Result<Vec<u32>, AllocError>
     requires small { length word.now < 2 ^ 32 }
     ensures { IfOk result (λ other. IsBracketing (contour word.now) other.items) }
 {
-    let mut other: Vec<u32> = Vec::new(alloc);
+    let mut other: Vec<u32> = Vec::with_capacity(alloc, word.len() + 1)?;
     other.push(0)?;
     let mut open: Vec<u32> = Vec::new(alloc);
     'letters: for (i, letter) in word.iter().enumerate() {

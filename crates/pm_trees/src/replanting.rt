@@ -1,5 +1,5 @@
 //! Replanting: the same plane tree, planted at another of its leaves.
-ghost use Rattle.std.specs.Prelude.{◌≡◌, ◌<◌, ◌≤◌, ◌^◌, IfOk, length, slice_index};
+ghost use Rattle.std.specs.Prelude.{◌≡◌, ◌*◌, ◌%◌, ◌<◌, ◌≤◌, ◌^◌, IfOk, length, slice_index};
 ghost use Rattle.pm_trees.specs.Blossoming.{leaves};
 ghost use Rattle.pm_trees.specs.declared.letters.TheConstants.{LEAF};
 ghost use Rattle.pm_trees.specs.Replanted.{IsReplanted, IsTurned};
@@ -41,7 +41,7 @@ fn turned(alloc: Global, word: &[u8], other: &[u32], start: u32) -> Result<Vec<u
     requires leaf { slice_index (contour word.now) start ≡ LEAF }
     ensures { IfOk result (λ letters. IsTurned (contour word.now) start (contour letters.items)) }
 {
-    let mut letters: Vec<u8> = Vec::new(alloc);
+    let mut letters: Vec<u8> = Vec::with_capacity(alloc, word.len())?;
     'steps: for steps in 1..other.len() as u32 {
         letters.push(turned_letter(word, other, start, steps))?;
     }
@@ -57,11 +57,23 @@ fn turned_letter(word: &[u8], other: &[u32], start: u32, steps: u32) -> u8
     ensures { IsTurnedLetter (contour word.now) start steps result }
 {
     let places = other.len() as u32;
-    let place = (start + steps) % places;
+    let place = once_around(start + steps, places);
     let letter = letter_at(word, place);
     if letter != OPEN && letter != CLOSE {
         return letter;
     }
-    let steps_across = (other[place as usize] + places - start) % places;
+    let steps_across = once_around(other[place as usize] + places - start, places);
     if steps < steps_across { OPEN } else { CLOSE }
+}
+
+/// The remainder by the number of places, of a number less than twice that.
+fn once_around(place: u32, places: u32) -> u32
+    requires { place < 2 * places }
+    ensures { result ≡ place % places }
+{
+    if place < places {
+        place
+    } else {
+        place - places
+    }
 }

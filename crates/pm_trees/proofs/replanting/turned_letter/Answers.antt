@@ -6,17 +6,17 @@ use Rattle.pm_trees.proofs.replanting.turned_letter.Goals.{else-letter-ne-OPEN-v
 pub returns-then-steps-steps_across : goal.returns-then-steps-steps_across
 returns-then-steps-steps_across c =
     let long = c.requires.bracketing.as_long in
-    letter_by_steps _ _ c.args.start c.args.steps (length c.args.other.now) _ _ _ _ c.requires.bracketing (omega arith) (omega arith) (omega arith) refl c.letter_at-letter.ensures
+    letter_by_steps _ _ c.args.start c.args.steps (length c.args.other.now) _ _ _ _ c.requires.bracketing (omega arith) (omega arith) (omega arith) c.once_around-place.ensures c.letter_at-letter.ensures
     (elim c.else-letter-ne-OPEN.branch [
       | else-letter-ne-OPEN-via-then-letter-ne-OPEN+else-letter-ne-CLOSE w ↦ inr w.if-letter-ne-CLOSE.false
       | else-letter-ne-OPEN-via-else-letter-ne-OPEN w ↦ inl w.if-letter-ne-OPEN.false
-    ]) refl (λ _. refl) (λ h. absurd (let t = c.if-steps-steps_across.true in omega arith))
+    ]) c.once_around-steps_across.ensures (λ _. refl) (λ h. absurd (let t = c.if-steps-steps_across.true in omega arith))
 
 pub returns-else-steps-steps_across : goal.returns-else-steps-steps_across
 returns-else-steps-steps_across c =
     let long = c.requires.bracketing.as_long in
-    letter_by_steps _ _ c.args.start c.args.steps (length c.args.other.now) _ _ _ _ c.requires.bracketing (omega arith) (omega arith) (omega arith) refl c.letter_at-letter.ensures
+    letter_by_steps _ _ c.args.start c.args.steps (length c.args.other.now) _ _ _ _ c.requires.bracketing (omega arith) (omega arith) (omega arith) c.once_around-place.ensures c.letter_at-letter.ensures
     (elim c.else-letter-ne-OPEN.branch [
       | else-letter-ne-OPEN-via-then-letter-ne-OPEN+else-letter-ne-CLOSE w ↦ inr w.if-letter-ne-CLOSE.false
       | else-letter-ne-OPEN-via-else-letter-ne-OPEN w ↦ inl w.if-letter-ne-OPEN.false
-    ]) refl (λ h. absurd (let t = c.if-steps-steps_across.false in omega arith)) (λ _. refl)
+    ]) c.once_around-steps_across.ensures (λ h. absurd (let t = c.if-steps-steps_across.false in omega arith)) (λ _. refl)
