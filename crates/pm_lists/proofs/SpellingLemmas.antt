@@ -1,17 +1,15 @@
 -- The lines of lists: what a line spells, and the one line of a list.
-use Rattle.std.proofs.Common.{◌≡◌, ◌≢◌, ℕ, true, ◌+◌, ◌<◌, ◌^◌, List, [], ◌∷◌, ◌++◌, length, take, get_or, refl, sym, ap, ◌∙◌, subst, arith, append_assoc}
+use Rattle.std.proofs.Common.{◌≡◌, ◌≢◌, ℕ, true, ◌<◌, ◌^◌, List, [], ◌∷◌, refl, sym, ap, ◌∙◌, subst, arith}
 use Rattle.std.specs.Prelude.{map, decimal, All}
 use Rattle.std.specs.List.{AllZip, join_with_byte, list_all, slice_split}
 use Rattle.std.proofs.lemmas.Bool.{and_parts, false≢true}
 use Rattle.std.proofs.lemmas.Bool.Decides.{nat_tests}
-use Rattle.std.proofs.lemmas.List.{take_more}
 use Rattle.std.proofs.lemmas.List.Elements.{All-nil, All-head, All-tail, All-cons}
-use Rattle.std.proofs.lemmas.Slice.Zip.{all_zipped_more}
 use Rattle.pm_text.specs.Broken.{newline, HasNoNewline}
 use Rattle.pm_text.specs.Numeral.{IsNumber}
 use Rattle.pm_text.specs.Spaced.{is_space, words, HasNoSpace}
 use Rattle.pm_text.proofs.NumeralLemmas.{number_is_unique, decimal_is_number, number_is_decimal}
-use Rattle.pm_text.proofs.WordLemmas.{HasNoSpace-nil, HasNoSpace-cons, split-join, join-words, number_has_no_space, number_has_no_newline}
+use Rattle.pm_text.proofs.WordLemmas.{HasNoSpace-nil, HasNoSpace-cons, split-join, number_has_no_space, number_has_no_newline}
 use Rattle.pm_text.proofs.LineLemmas.{HasNoNewline-nil, HasNoNewline-cons, HasNoNewline-append}
 use Rattle.pm_lists.specs.ListLine.{space, is_tag_byte, is_tag, AreWords, SpellsList, list_line, ListHasOneLine, LineSpellsOneList}
 
@@ -115,17 +113,9 @@ words_of_line tag line values is s =
     ∙ words-join tag s.spelled is.some
     ∙ split-join tag s.spelled (All-cons HasNoSpace tag s.spelled is.no_space (no_space_spelled s.spelled values s.numbers))
 
-head_or : List (List ℕ) → List ℕ
-head_or [] = []
-head_or (word ∷ more) = word
-
 tail_or : List (List ℕ) → List (List ℕ)
 tail_or [] = []
 tail_or (word ∷ more) = more
-
-first_same : (one other : List ℕ) (ones others : List (List ℕ)) → one ∷ ones ≡ other ∷ others → one ≡ other
-unfolding head_or
-first_same one other ones others e = ap head_or e
 
 rest_same : (one other : List ℕ) (ones others : List (List ℕ)) → one ∷ ones ≡ other ∷ others → ones ≡ others
 unfolding tail_or
@@ -136,90 +126,6 @@ spells_one_list tag line one other tagged a b =
     let is = tag_parts tag tagged in
     let e : a.spelled ≡ b.spelled = rest_same tag tag a.spelled b.spelled (sym (words_of_line tag line one is a) ∙ words_of_line tag line other is b) in
     same_numbers b.spelled one other (subst (λ (ws : List (List ℕ)). AllZip IsNumber ws one) e a.numbers) b.numbers
-
--- the tag and words of numbers make a line that spells the list
-pub spells_from_words : (tag line values : List ℕ) (rest : List (List ℕ)) → words line ≡ tag ∷ rest → AllZip IsNumber rest values → SpellsList tag line values
-spells_from_words tag line values rest e all = record {
-  spelled = rest;
-  whole = sym (join-words line) ∙ ap (join_with_byte 32) e;
-  numbers = all;
-}
-
--- a line with no word spells no list
-pub no_word_spells_none : (tag line values : List ℕ) → IsTag tag → words line ≡ [] → SpellsList tag line values → ⊥
-no_word_spells_none tag line values is none s =
-    let e : [] ≡ tag ∷ s.spelled = sym none ∙ words_of_line tag line values is s in
-    absurd (grind arith)
-
--- the first word of a line that spells a list is the tag, and the other words spell the numbers
-pub first_is_tag : (tag line values first : List ℕ) (rest : List (List ℕ)) → IsTag tag → words line ≡ first ∷ rest → SpellsList tag line values → first ≡ tag
-first_is_tag tag line values first rest is e s = first_same first tag rest s.spelled (sym e ∙ words_of_line tag line values is s)
-
-pub rest_are_numbers : (tag line values first : List ℕ) (rest : List (List ℕ)) → IsTag tag → words line ≡ first ∷ rest → SpellsList tag line values → AllZip IsNumber rest values
-rest_are_numbers tag line values first rest is e s =
-    let same : rest ≡ s.spelled = rest_same first tag rest s.spelled (sym e ∙ words_of_line tag line values is s) in
-    subst (λ (ws : List (List ℕ)). AllZip IsNumber ws values) (sym same) s.numbers
-
--- the words so far spell the numbers so far
-pub record ReadsNumbers (all left : List (List ℕ)) (values : List ℕ) : Type 0 where
-  pub passed : List (List ℕ)
-  pub whole : all ≡ passed ++ left
-  pub numbers : AllZip IsNumber passed values
-
-pub nothing_read : (all : List (List ℕ)) → ReadsNumbers all all []
-nothing_read all = record { passed = []; whole = refl; numbers = tt }
-
-pub one_more_number : (all left next : List (List ℕ)) (values word : List ℕ) (value : ℕ) → ReadsNumbers all left values → left ≡ word ∷ next → IsNumber word value → ReadsNumbers all next (values ++ value ∷ [])
-one_more_number all left next values word value r e is = record {
-  passed = r.passed ++ word ∷ [];
-  whole = r.whole ∙ ap (λ (ws : List (List ℕ)). r.passed ++ ws) e ∙ sym (append_assoc r.passed (word ∷ []) next);
-  numbers = all_zipped_more IsNumber r.passed values word value r.numbers is;
-}
-
-append_nil : (ws : List (List ℕ)) → ws ++ [] ≡ ws
-append_nil [] = refl
-append_nil (w ∷ ws) = ap (λ (vs : List (List ℕ)). w ∷ vs) (append_nil ws)
-
-pub all_numbers_read : (all left : List (List ℕ)) (values : List ℕ) → ReadsNumbers all left values → left ≡ [] → AllZip IsNumber all values
-all_numbers_read all left values r e =
-    let same : all ≡ r.passed = r.whole ∙ ap (λ (ws : List (List ℕ)). r.passed ++ ws) e ∙ append_nil r.passed in
-    subst (λ (ws : List (List ℕ)). AllZip IsNumber ws values) (sym same) r.numbers
-
-no_number_inside : (front back : List (List ℕ)) (values word : List ℕ) → ((value : ℕ) → ¬ IsNumber word value) → AllZip IsNumber (front ++ word ∷ back) values → ⊥
-no_number_inside [] back [] word none all = absurd all
-no_number_inside [] back (value ∷ values) word none all = none value all.0
-no_number_inside (first ∷ front) back [] word none all = absurd all
-no_number_inside (first ∷ front) back (value ∷ values) word none all = no_number_inside front back values word none all.1
-
--- a word that spells no number stands among the words
-pub no_number_read : (all left next : List (List ℕ)) (values others word : List ℕ) → ReadsNumbers all left values → left ≡ word ∷ next → ((value : ℕ) → ¬ IsNumber word value) → AllZip IsNumber all others → ⊥
-no_number_read all left next values others word r e none numbers =
-    let same : all ≡ r.passed ++ word ∷ next = r.whole ∙ ap (λ (ws : List (List ℕ)). r.passed ++ ws) e in
-    no_number_inside r.passed next others word none (subst (λ (ws : List (List ℕ)). AllZip IsNumber ws others) same numbers)
-
--- one more word at the end of a line
-join-push : (first : List ℕ) (more : List (List ℕ)) (word : List ℕ) → join_with_byte 32 (first ∷ (more ++ word ∷ [])) ≡ join_with_byte 32 (first ∷ more) ++ 32 ∷ word
-join-push first [] word = refl
-join-push first (next ∷ more) word =
-    ap (λ (text : List ℕ). first ++ 32 ∷ text) (join-push next more word) ∙ sym (append_assoc first (32 ∷ join_with_byte 32 (next ∷ more)) (32 ∷ word))
-
-map-push : (values : List ℕ) (value : ℕ) → map decimal (values ++ value ∷ []) ≡ map decimal values ++ decimal value ∷ []
-map-push [] value = refl
-map-push (first ∷ values) value = ap (λ (ws : List (List ℕ)). decimal first ∷ ws) (map-push values value)
-
--- one more number at the end of a line
-pub list_line-push : (tag values : List ℕ) (value : ℕ) → list_line tag (values ++ value ∷ []) ≡ list_line tag values ++ 32 ∷ decimal value
-list_line-push tag values value =
-    ap (λ (ws : List (List ℕ)). join_with_byte 32 (tag ∷ ws)) (map-push values value) ∙ join-push tag (map decimal values) (decimal value)
-
--- the next number of a list, after a space
-pub line_more : (tag values line next : List ℕ) (place : ℕ) → place < length values → line ≡ list_line tag (take place values) → next ≡ line ++ 32 ∷ decimal (get_or values place 0) → next ≡ list_line tag (take (place + 1) values)
-line_more tag values line next place less is a =
-    let word : List ℕ = decimal (get_or values place 0) in
-    a
-    ∙ ap (λ (bytes : List ℕ). bytes ++ 32 ∷ word) is
-    ∙ sym (list_line-push tag (take place values) (get_or values place 0))
-    ∙ ap (list_line tag) (sym (take_more values place 0 less))
 
 no_newline_joined : (first values : List ℕ) → HasNoNewline first → All (λ value. value < 2 ^ 64) values → HasNoNewline (list_line first values)
 no_newline_joined first [] is fit = is

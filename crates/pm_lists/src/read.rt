@@ -1,11 +1,10 @@
 //! Reading a list from a line.
-ghost use Rattle.std.specs.Prelude.{◌≡◌, IsTrue, ℕ, ◌++◌, ◌∷◌, [], List, IfOk, IfErr, OnOk};
-ghost use Rattle.std.specs.List.{AllZip};
-ghost use Rattle.pm_lists.specs.ListLine.{SpellsList, is_tag};
-ghost use Rattle.pm_text.specs.Numeral.{IsNumber};
+ghost use Rattle.std.specs.Prelude.{◌≡◌, ◌≢◌, IsTrue, ℕ, ◌++◌, ◌∷◌, [], List, IfOk, IfErr, OnOk};
+ghost use Rattle.pm_lists.specs.ListLine.{AreWords, SpellsList, is_tag};
+ghost use Rattle.pm_lists.specs.Numbers.{number_words};
 
 use crate::num_list::NumList;
-use pm_text::{Words, number};
+use pm_text::leading_number;
 use std::alloc::{AllocError, Global};
 
 /// Why no list is read from a line.
@@ -40,29 +39,32 @@ pub fn read_list(alloc: Global, tag: &[u8], line: &[u8]) -> Result<NumList, List
     ensures text { IfErr result (λ refusal. refusal ≡ ListTextRefusal.Text
         → (values : List ℕ) → ¬ SpellsList tag.now line.now values) }
 {
-    let mut words = Words::new(line);
-    let Some(first) = words.next() else {
+    let Some(numbers) = line.strip_prefix(tag) else {
         return Err(ListTextRefusal::Text);
     };
-    if first != tag {
-        return Err(ListTextRefusal::Text);
-    }
-    let values = read_numbers(alloc, &mut words)?;
+    let values = read_numbers(alloc, numbers)?;
     Ok(NumList::of(values))
 }
 
-/// The numbers that the words spell, each one.
-fn read_numbers(alloc: Global, words: &mut Words<'_>) -> Result<Vec<u64>, ListTextRefusal>
-    ensures ok { IfOk result (λ values. AllZip IsNumber words.old values.items) }
+/// The numbers that the bytes spell, each after one space.
+fn read_numbers(alloc: Global, bytes: &[u8]) -> Result<Vec<u64>, ListTextRefusal>
+    ensures words { IfOk result (λ values. AreWords values.items) }
+    ensures ok { IfOk result (λ values. bytes.now ≡ number_words values.items) }
     ensures text { IfErr result (λ refusal. refusal ≡ ListTextRefusal.Text
-        → (values : List ℕ) → ¬ AllZip IsNumber words.old values) }
+        → (values : List ℕ) → AreWords values → bytes.now ≢ number_words values) }
 {
-    let mut values = Vec::new(alloc);
-    'numbers: while let Some(word) = words.next() {
-        let Some(value) = number(word) else {
+    // Each number takes two bytes or more.
+    let mut values = Vec::with_capacity(alloc, bytes.len() / 2)?;
+    let mut place = 0;
+    'numbers: while place < bytes.len() {
+        if bytes[place] != b' ' {
+            return Err(ListTextRefusal::Text);
+        }
+        let Some(number) = leading_number(&bytes[place + 1..]) else {
             return Err(ListTextRefusal::Text);
         };
-        push_value(&mut values, value)?;
+        push_value(&mut values, number.value)?;
+        place += 1 + number.length;
     }
     Ok(values)
 }

@@ -1,24 +1,21 @@
-use Rattle.std.proofs.Common.{◌≡◌, List, ℕ, ◌∷◌, sym, ap, ◌∙◌, rules}
 use Rattle.std.proofs.lemmas.Result.{err_from_is_err_and}
-use Rattle.pm_text.specs.Spaced.{words}
-use Rattle.pm_lists.proofs.SpellingLemmas.{spells_from_words, first_is_tag, rest_are_numbers, tag_parts}
+use Rattle.std.proofs.lemmas.Bool.Decides.{Decides-eqb}
+use Rattle.std.proofs.lemmas.Slice.Eq.{strip_prefix_is}
+use Rattle.pm_lists.proofs.NumberLemmas.{spells_words, words_spelled, rest_is_none}
 use Rattle.pm_lists.proofs.read.read_list.Goals as goal
 
-pub returns-then-ne-clause-text : goal.returns-then-ne-clause-text
-returns-then-ne-clause-text c = λ _ values s.
-    let e : words c.args.line.now ≡ c.in-Some.first.now ∷ c.next.new.self = sym c.new-words.ensures ∙ c.in-Some.ensures in
-    let differs : c.in-Some.first.now ≡ c.args.tag.now → ⊥ = search rules in
-    differs (first_is_tag c.args.tag.now c.args.line.now values c.in-Some.first.now c.next.new.self (tag_parts c.args.tag.now c.requires) e s)
+pub returns-in_default-clause-text : goal.returns-in_default-clause-text
+returns-in_default-clause-text c = λ _ values s.
+    let none = rw c.in_default.is at (strip_prefix_is Decides-eqb c.args.line.now c.args.tag.now c.strip_prefix.result c.strip_prefix.ensures.cases) in
+    none _ (words_spelled c.args.tag.now c.args.line.now values s).1
 
 pub returns-in_err-values-clause-text : goal.returns-in_err-values-clause-text
 returns-in_err-values-clause-text c =
-    let e : words c.args.line.now ≡ c.in-Some.first.now ∷ c.next.new.self = sym c.new-words.ensures ∙ c.in-Some.ensures in
+    let rest = rw c.in-Some.is at (strip_prefix_is Decides-eqb c.args.line.now c.args.tag.now c.strip_prefix.result c.strip_prefix.ensures.cases) in
     let p = err_from_is_err_and c.from_residual.result c.from_residual.ensures.1 in
-    rw (p.1, p.2) (λ is values s. c.in_err-values.ensures.text is values
-    (rest_are_numbers c.args.tag.now c.args.line.now values c.in-Some.first.now c.next.new.self (tag_parts c.args.tag.now c.requires) e s))
+    rw (p.1, p.2) (λ is values s. rest_is_none c.args.tag.now c.args.line.now c.in-Some.numbers.now values rest s (c.in_err-values.ensures.text is values))
 
 pub returns-clause-ok : goal.returns-clause-ok
 returns-clause-ok c =
-    let e : words c.args.line.now ≡ c.in-Some.first.now ∷ c.next.new.self = sym c.new-words.ensures ∙ c.in-Some.ensures in
-    let same : c.in-Some.first.now ≡ c.args.tag.now = search rules in
-    rw c.of.ensures (spells_from_words c.args.tag.now c.args.line.now c.in_ok-values.values.items c.next.new.self (e ∙ ap (λ (word : List ℕ). word ∷ c.next.new.self) same) c.in_ok-values.ensures.ok)
+    let rest = rw c.in-Some.is at (strip_prefix_is Decides-eqb c.args.line.now c.args.tag.now c.strip_prefix.result c.strip_prefix.ensures.cases) in
+    rw c.of.ensures (spells_words c.args.tag.now c.args.line.now c.in-Some.numbers.now c.in_ok-values.values.items rest c.in_ok-values.ensures.words c.in_ok-values.ensures.ok)
