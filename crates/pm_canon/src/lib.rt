@@ -18,7 +18,11 @@ use pm_map::RootedMap;
 use std::alloc::{AllocError, Global};
 
 /// The canonical map that is the same as `map`: its root is `0`, and its edges are numbered in the order in which they
-/// are met from the root, vertex by vertex.
+/// are met from the root, vertex by vertex. It takes time linear in the darts.
+///
+/// # Errors
+///
+/// Where memory runs out.
 pub fn canon(alloc: Global, map: &RootedMap) -> Result<RootedMap, AllocError>
     ensures { IfOk result (λ canonical. IsCanonicalOf map.now canonical) }
 {
@@ -29,7 +33,11 @@ pub fn canon(alloc: Global, map: &RootedMap) -> Result<RootedMap, AllocError>
     Ok(RootedMap::from_rooted_rotation(renamed, 0))
 }
 
-/// Whether the two maps are the same, up to the numbers of their darts.
+/// Whether the two maps are the same, up to the numbers of their darts. It takes time linear in the darts.
+///
+/// # Errors
+///
+/// Where memory runs out.
 pub fn same(alloc: Global, first: &RootedMap, second: &RootedMap) -> Result<bool, AllocError>
     ensures { IfOk result (λ is_same. IsTrue is_same ↔ Same (structure_of first.now) (structure_of second.now)) }
 {

@@ -8,7 +8,7 @@ use crate::naming::names_of;
 use pm_map::RootedMap;
 use std::alloc::{AllocError, Global};
 
-/// The vertices of the map. It takes time linear in the darts.
+/// The vertices of the map, in the order in which they are met from the root. It takes time linear in the darts.
 ///
 /// # Errors
 ///

@@ -16,7 +16,12 @@ pub struct VertexList {
     pub sizes: Vec<u32>,
 }
 
-/// The darts of the map in the order in which its vertices are met from the root.
+/// The darts of the rooted map with this rotation and root, vertex by vertex, in the order in which its vertices are met from
+/// the root, each from the dart at which it is met. It takes time linear in the darts.
+///
+/// # Errors
+///
+/// Where memory runs out.
 pub fn meeting_list(alloc: Global, sigma: &[u32], root: u32) -> Result<Vec<u32>, AllocError>
     requires { IsRootedMap (record { sigma = sigma.now; root = root }) }
     ensures { IfOk result (λ darts. IsMeetingOrder (structure_of (record { sigma = sigma.now; root = root })) darts.items) }

@@ -39,7 +39,7 @@ pub record Run : Type 0 where
   pub error : Stream
   pub status : ℕ
 
--- the stream had no fault in the run
+-- the stream had no fault in the run: its count of faults didn't rise, and doesn't stand at its greatest number
 abbrev pub HadNoFault : Stream → Type 0
 HadNoFault stream = FaultsRose stream.faults_before stream.faults_after → ⊥
 

@@ -113,8 +113,8 @@ fn write_line<E: Sink>(err: &mut E, line: &[u8])
     }
 }
 
-/// Does all that the program does: takes the words after the program's name, reads `input`, writes the answer to `out`
-/// and, where there is none, a line to `err`, and answers the status.
+/// Does all that the program does: takes the words after the program's name, fewer than 2^32, reads `input`, writes the
+/// answer to `out` and, where there is none, a line to `err`, and answers the status.
 ///
 /// All input is read before the first write; a command that draws reads nothing, and `draw` writes record by record. The
 /// statuses are 0 for an answer; 2 for words that are no command; 3, 4, 6, 7 and 12 for a file that is refused by its text,

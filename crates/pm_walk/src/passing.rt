@@ -37,8 +37,8 @@ pub struct Step {
     pub next: u32,
 }
 
-/// Passes a dart: where its edge is met for the first time, it is cut if the dart passes the test, and else kept. `fates`
-/// has an entry for each edge.
+/// Passes a dart of the map: where its edge is met for the first time, it is cut if the dart passes the test, and else kept.
+/// `fates` has an entry for each edge, that of the darts `2k` and `2k + 1` at `k`.
 pub fn pass(map: &RootedMap, dart: u32, passes: bool, fates: &mut [Fate]) -> Step
     requires within { dart < length map.now.sigma }
     requires edges { 2 * length fates.old ≡ length map.now.sigma }
