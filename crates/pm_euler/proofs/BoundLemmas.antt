@@ -1,13 +1,10 @@
 -- Bounds are bounds, and what is below them.
-use Rattle.std.proofs.Common.{◌≡◌, ℕ, zero, suc, ◌+◌, ◌-◌, ◌*◌, ◌^◌, ◌<◌, ◌≤◌, List, [], ◌∷◌, ◌++◌, length, length-append, length-take, length-drop, take, drop, replicate, refl, sym, ◌∙◌, ap, subst, arith}
-use Rattle.std.specs.Prelude.{slice_index, slice_index_or, All}
-use Rattle.std.proofs.Math.ListN.{get_or-append}
-use Rattle.std.proofs.lemmas.List.{get_or_default, get_or-append_right, get_or-replicate, get_or-take, get_or-drop, length-replicate}
+use Rattle.std.proofs.Common.{◌≡◌, ℕ, zero, suc, ◌+◌, ◌*◌, ◌^◌, ◌<◌, ◌≤◌, [], ◌∷◌, ◌++◌, length, length-append, replicate, refl, ◌∙◌, ap, arith}
+use Rattle.std.specs.Prelude.{slice_index, All}
+use Rattle.std.proofs.lemmas.List.{length-replicate}
 use Rattle.std.proofs.lemmas.List.Elements.{All-append, All-replicate, All-nil, All-cons}
 use Rattle.pm_lists.specs.ListLine.{AreWords}
-use Rattle.pm_lists.specs.Valid.{AreBounds, IsValidList}
-use Rattle.pm_lehmer.specs.Lehmer.{IsArrangementCode}
-use Rattle.pm_remy.specs.Growth.{IsChoices}
+use Rattle.pm_lists.specs.Valid.{AreBounds}
 use Rattle.pm_objects.specs.Codes.{code_bounds}
 use Rattle.pm_objects.proofs.CodeBounds.{code_positive}
 use Rattle.pm_euler.specs.Bounds.{growth_bounds, quartic_choices, quartic_residues}

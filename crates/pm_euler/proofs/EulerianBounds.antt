@@ -1,12 +1,10 @@
 -- The bounds of the choices and the residues of Eulerian maps are bounds, and what is below them.
-use Rattle.std.proofs.Common.{◌≡◌, ℕ, zero, suc, ◌+◌, ◌-◌, ◌*◌, ◌/◌, ◌^◌, ◌<◌, ◌≤◌, pow_mono, List, [], ◌∷◌, ◌++◌, length, length-append, length-take, length-drop, take, replicate, append_assoc, drop, map, refl, sym, ◌∙◌, ap, subst, arith, take_all, ap₂}
-use Rattle.std.specs.Prelude.{slice_index, All, flat_map}
-use Rattle.std.proofs.Math.ListN.{get_or-append}
-use Rattle.std.proofs.lemmas.List.{flat_map_more, take_more, map-append, get_or-append_right, get_or-take, get_or-drop, get_or-map, length-map}
+use Rattle.std.proofs.Common.{◌≡◌, ℕ, zero, suc, ◌+◌, ◌-◌, ◌*◌, ◌/◌, ◌^◌, ◌<◌, ◌≤◌, pow_mono, List, [], ◌∷◌, ◌++◌, length, length-append, take, replicate, append_assoc, map, refl, sym, ◌∙◌, ap, arith, take_all, ap₂}
+use Rattle.std.specs.Prelude.{All, flat_map}
+use Rattle.std.proofs.lemmas.List.{flat_map_more, take_more, map-append, length-map}
 use Rattle.std.proofs.lemmas.List.Elements.{All-append, All-map, All-weaker, All-nil, All-cons}
 use Rattle.pm_lists.specs.ListLine.{AreWords}
-use Rattle.pm_lists.specs.Valid.{AreBounds, IsValidList}
-use Rattle.pm_lehmer.specs.Lehmer.{IsArrangementCode}
+use Rattle.pm_lists.specs.Valid.{AreBounds}
 use Rattle.pm_trees.specs.Binomial.{choose}
 use Rattle.pm_trees.specs.BudPattern.{IsHalfDegree}
 use Rattle.pm_trees.specs.Pairs.{IsProfile, edges_of, pair_at}
@@ -14,8 +12,7 @@ use Rattle.pm_trees.proofs.Binomials.{choose_some, choose-le-power}
 use Rattle.pm_objects.specs.Codes.{code_bounds, bounds_by_range}
 use Rattle.pm_euler.specs.Objects.{halves_of, nodes_of_profile, leaves_of_profile, ranges_of}
 use Rattle.pm_euler.specs.Bounds.{eulerian_choices, eulerian_residues}
-use Rattle.pm_euler.specs.Eulerian.{codes_by_degree}
-use Rattle.pm_objects.proofs.CodeBounds.{code_positive, code_bounds_low, length-code_bounds, code_bound, valid_cons, valid_append, valid_codes}
+use Rattle.pm_objects.proofs.CodeBounds.{code_positive, code_bounds_low, length-code_bounds}
 use Rattle.pm_euler.proofs.ObjectLemmas.{halves_are}
 
 patterns_some : (half : ℕ) → IsHalfDegree half → 1 ≤ choose (2 * half - 1) half

@@ -2,7 +2,7 @@
 use Rattle.std.proofs.Common.{length-take, ◌^◌, ◌≤◌, ◌+◌, take_all, length-drop, ◌==◌, count_by, ◌≡◌, ℕ, suc, ◌-◌, ◌*◌, ◌/◌, ◌<◌, inl, inr, List, [], ◌∷◌, ◌++◌, length, map, All, take, drop, take-append-drop, refl, ap, ap₂, sym, ◌∙◌, subst, arith}
 use Rattle.pm_objects.proofs.ObjectCounts.{numbers}
 use Rattle.pm_objects.proofs.ObjectsPut.{objects_many}
-use Rattle.pm_objects.proofs.ObjectsFound.{length-turned}
+use Rattle.pm_words.proofs.Heights.{length-turned}
 use Rattle.std.proofs.lemmas.List.FromFn.{length-range_with_len}
 use Rattle.pm_planting.specs.declared.kind.Kind.TheVariants.{Node, Leaf}
 use Rattle.pm_objects.proofs.SameCounts.{IsAsMany}

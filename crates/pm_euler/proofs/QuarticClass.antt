@@ -1,5 +1,5 @@
 -- The laws of quartic maps as a class.
-use Rattle.std.proofs.Common.{ℕ, ◌+◌, ◌*◌, ◌/◌, ◌^◌, ◌≤◌, arith, ◌∷◌}
+use Rattle.std.proofs.Common.{ℕ, ◌+◌, ◌*◌, ◌/◌, ◌≤◌, arith, ◌∷◌}
 use Rattle.pm_euler.proofs.QuarticMade.{quartic_profile, quartic_makes, quartic_joins}
 use Rattle.pm_euler.proofs.TreeSamples.{IsTreeClass, tree_one_to_one}
 use Rattle.std.proofs.lemmas.List.Elements.{All-cons}

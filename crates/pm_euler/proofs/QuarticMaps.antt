@@ -1,8 +1,7 @@
 -- Quartic maps: their size, and what a map is answered that should be one.
-use Rattle.std.proofs.Common.{◌≡◌, ℕ, ◌*◌, ◌/◌, ◌<◌, ◌≤◌, Ok, Err, inl, inr, false, eqb, length, refl, sym, ◌∙◌, ap, subst, arith, ◌%◌, zero, suc, eq-eqb}
+use Rattle.std.proofs.Common.{◌≡◌, ℕ, ◌*◌, ◌/◌, ◌<◌, Ok, Err, inl, inr, false, eqb, length, refl, sym, ◌∙◌, ap, subst, arith, ◌%◌, zero, suc, eq-eqb}
 use Rattle.std.specs.Prelude.{slice_index}
 use Rattle.std.proofs.lemmas.Bool.{cases_lt, ne_eqb, cases_eq}
-use Rattle.pm_limits.specs.declared.TheConstants.{MAX_EDGES}
 use Rattle.pm_perm.proofs.LeastCases.{all_or_least}
 use Rattle.pm_map.proofs.DegreesTaken.{dart_takes, dart_of_degree}
 use Rattle.pm_map.proofs.DegreeCounts.{degree_counts_darts}

@@ -1,9 +1,9 @@
 -- The objects of ranges with given arities in preorder and given codes by range, and their arrangement.
-use Rattle.std.proofs.Common.{◌≡◌, ℕ, ◌+◌, ◌-◌, ◌<◌, ◌≤◌, ◌==◌, Bool, inl, inr, List, [], ◌++◌, length, map, filter, get_or, All, drop, take, refl, ap, ap₂, sym, ◌∙◌, subst, arith, length-append, length-drop, take-append-drop, eq-eqb, eqb-true, Contains}
+use Rattle.std.proofs.Common.{◌≡◌, ℕ, ◌+◌, ◌-◌, ◌<◌, ◌≤◌, ◌==◌, Bool, inl, inr, List, [], ◌++◌, length, map, filter, get_or, All, drop, take, refl, ap, ap₂, sym, ◌∙◌, subst, arith, length-drop, take-append-drop, eq-eqb, eqb-true, Contains}
 use Rattle.std.specs.Prelude.{count_by, slice_index}
 use Rattle.std.specs.List.Sorted.{IsStrictlyIncreasing}
 use Rattle.std.proofs.lemmas.Bool.{cases_eq}
-use Rattle.std.proofs.lemmas.List.{length-map, get_or-map, get_or_default, take_at, drop_at, length-take-le}
+use Rattle.std.proofs.lemmas.List.{length-map, get_or-map, get_or_default, take_at, drop_at}
 use Rattle.std.proofs.lemmas.List.Elements.{All-map, filter_passes}
 use Rattle.std.proofs.lemmas.List.FromFn.{length-range_with_len, get_or-range_with_len}
 use Rattle.std.proofs.lemmas.List.Kept.{AllPairs-from_increasing, IsStrictlyIncreasing-filter}
@@ -16,6 +16,7 @@ use Rattle.pm_lehmer.specs.Lehmer.{code_of, IsArrangementOf}
 use Rattle.pm_lehmer.proofs.Arranged.{has_arrangement, length-arrangement}
 use Rattle.pm_lehmer.proofs.Rising.{Rises, code_of-rising}
 use Rattle.pm_words.specs.Word.{turned}
+use Rattle.pm_words.proofs.Heights.{length-turned}
 use Rattle.pm_objects.specs.Codes.{AreObjectsOf, codes_by_range}
 use Rattle.pm_objects.specs.Objects.{AreApart, range_at, arity_of, arities_of, nodes_of_ranges, objects_of}
 use Rattle.pm_objects.proofs.ObjectCounts.{find_range, numbers, all_objects}
@@ -29,9 +30,6 @@ turn_on start xs few =
     let long : length (drop (length xs - start) xs) ≡ start = (let l = length-drop (length xs - start) xs in omega (arith, l, few)) in
     ap₂ (λ (us vs : List ℕ). us ++ vs) (drop_at (drop (length xs - start) xs) (take (length xs - start) xs) start long) (take_at (drop (length xs - start) xs) (take (length xs - start) xs) start long)
     ∙ take-append-drop (length xs - start) xs
-
-pub length-turned : (start : ℕ) (xs : List ℕ) → start ≤ length xs → length (turned start xs) ≡ length xs
-length-turned start xs few = omega (arith, few, length-append (drop start xs) (take start xs), length-drop start xs, length-take-le start xs few)
 
 pub turned_permutes : (start : ℕ) (xs : List ℕ) → IsPermutationList xs → start ≤ length xs → IsPermutationList (turned start xs)
 turned_permutes start xs permute few =

@@ -10,11 +10,10 @@ use Rattle.pm_lehmer.proofs.Arranged.{IsArrangementOf-unique, has_arrangement, l
 use Rattle.pm_words.specs.Word.{IsGood, IsGoodStart, IsGoodStarts, sum_of, turned}
 use Rattle.pm_words.specs.Plane.{letter_of}
 use Rattle.pm_words.proofs.Cycle.{good_starts_exist}
-use Rattle.pm_words.proofs.Heights.{IsLow, IsLow-from_good}
+use Rattle.pm_words.proofs.Heights.{IsLow, IsLow-from_good, length-turned}
 use Rattle.pm_objects.specs.Objects.{AreApart, arities_of, arity_of, letters_of, nodes_of_ranges}
 use Rattle.pm_objects.specs.Preorder.{ArePreordered}
 use Rattle.pm_objects.proofs.ObjectCounts.{HasObjects, arranged_objects, letters_sum}
-use Rattle.pm_objects.proofs.ObjectsFound.{length-turned}
 
 -- a word that sums to -1 has one good start
 pub one_good_start : (word : List ℤ) (first second : ℕ) → sum_of word ≡ neg_ℤ (pos 1) → IsGoodStart 1 word first → IsGoodStart 1 word second → first ≡ second

@@ -81,8 +81,8 @@ turned-round start front word start_within within =
     ap sum_of (sym (take-append-drop start word)) ∙ sum_of-append (take start word) (drop start word) ∙ ap (λ h. h +ℤ sum_of (drop start word)) (sym (height-is word start)) in
     omega (arith, ints, is, whole)
 
-pub length-turned : (start : ℕ) (word : List ℤ) → start ≤ length word → length (turned start word) ≡ length word
-length-turned start word within = omega (arith, length-append (drop start word) (take start word), length-drop start word, length-take-le start word within)
+pub length-turned : {X : Type 0} (start : ℕ) (entries : List X) → start ≤ length entries → length (turned start entries) ≡ length entries
+length-turned start entries within = omega (arith, within, length-append (drop start entries) (take start entries), length-drop start entries, length-take-le start entries within)
 
 -- a good start by the heights: lower than all before, and less than the goal above all after
 pub record IsLow (goal : ℕ) (word : List ℤ) (start : ℕ) : Type 0 where
