@@ -1,5 +1,5 @@
 //! Bud patterns: at which of its entries a node has its buds.
-ghost use Rattle.std.specs.Prelude.{◌≡◌, ◌-◌, ◌*◌, ◌<◌, ◌≤◌, length};
+ghost use Rattle.std.specs.Prelude.{◌≡◌, ◌-◌, ◌*◌, ◌/◌, ◌^◌, ◌<◌, ◌≤◌, length};
 ghost use Rattle.pm_trees.specs.Binomial.{choose};
 ghost use Rattle.pm_trees.specs.BudPattern.{HasRank, IsHalfDegree, IsPattern, PatternsAreRanked, half_degree};
 
@@ -17,11 +17,23 @@ pub fn pattern_count(half: u32) -> u64
     requires { IsHalfDegree half }
     ensures { result ≡ choose (2 * half - 1) half }
 {
-    let mut count: u128 = 1;
+    let mut count = 1;
     'halves: for i in 1..half {
-        count = count * u128::from(2 * (2 * i + 1)) / u128::from(i + 1);
+        count = scaled(count, 2 * (2 * i + 1), i + 1);
     }
-    count as u64
+    count
+}
+
+/// The product of the two, by the last. A division of 128 bits is slow, and most products fit in 64.
+fn scaled(count: u64, by: u32, over: u32) -> u64
+    requires some { 0 < over }
+    requires fits { count * by / over < 2 ^ 64 }
+    ensures { result ≡ count * by / over }
+{
+    if count < 1 << 32 {
+        return count * u64::from(by) / u64::from(over);
+    }
+    (u128::from(count) * u128::from(by) / u128::from(over)) as u64
 }
 
 /// Of so many words of so many letters with so many slots, those that begin with a bud.
@@ -32,7 +44,7 @@ fn bud_share(total: u64, letters: u32, slots: u32) -> u64
     requires slots { slots ≤ letters }
     ensures { result ≡ choose (letters - 1) slots }
 {
-    (u128::from(total) * u128::from(letters - slots) / u128::from(letters)) as u64
+    scaled(total, letters - slots, letters)
 }
 
 /// Writes the bud pattern of the given rank, from 0 in dictionary order with `b` before `c`, for a node of degree 2i,
