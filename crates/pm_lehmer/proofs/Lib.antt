@@ -3,3 +3,4 @@ pub mod Halving
 pub mod Arranged
 pub mod Ranked
 pub mod Rising
+pub mod Lowered

@@ -1,5 +1,5 @@
 //! From a list to its code.
-ghost use Rattle.std.specs.Prelude.{◌≡◌, ◌↔◌, ℕ, ◌^◌, ◌<◌, length, slice_index, EachIndex, IfOk, IsTrue};
+ghost use Rattle.std.specs.Prelude.{◌≡◌, ◌↔◌, ℕ, ◌+◌, ◌^◌, ◌<◌, ◌≤◌, length, slice_index, EachIndex, IfOk, IsTrue};
 ghost use Rattle.std.specs.List.{All};
 ghost use Rattle.std.specs.List.Sorted.{IsNonDecreasing};
 ghost use Rattle.pm_lehmer.specs.Lehmer.{count_below, ranks_among, code_of, IsArrangementCode};
@@ -8,7 +8,7 @@ use crate::counts::put;
 use std::alloc::{AllocError, Global};
 
 /// The code of the entries: entry k counts the later entries that are smaller than entry k. There are fewer than
-/// 2^32 entries. No list is sorted where each entry is below the number of entries, as in a permutation.
+/// 2^32 entries. No list is sorted where the entries lie in a range no longer than they are many, as in a permutation.
 ///
 /// # Errors
 ///
@@ -20,20 +20,34 @@ pub fn code(alloc: Global, entries: &[u32]) -> Result<Vec<u64>, AllocError>
     ensures is_code { IfOk result (λ v. IsArrangementCode v.items) }
     ensures length { IfOk result (λ v. length v.items ≡ length entries.now) }
 {
-    if are_below_length(entries) {
-        return code_of_small(alloc, entries);
+    let least = least_of(entries);
+    if are_near(entries, least) {
+        return code_from(alloc, entries, least);
     }
     let ranks = ranks(alloc, entries)?;
-    code_of_small(alloc, &ranks)
+    code_from(alloc, &ranks, 0)
 }
 
-// Whether each entry is below the number of entries.
-fn are_below_length(entries: &[u32]) -> bool
-    ensures { IsTrue result ↔ All (λ entry. entry < length entries.now) entries.now }
+// The least entry, and the greatest number where there is no entry.
+fn least_of(entries: &[u32]) -> u32
+    ensures { EachIndex entries.now (λ place. result ≤ slice_index entries.now place) }
 {
-    entries
-        .iter()
-        .all(|entry| (*entry as usize) < entries.len())
+    let mut least = u32::MAX;
+    'entries: for entry in entries {
+        if *entry < least {
+            least = *entry;
+        }
+    }
+    least
+}
+
+// Whether each entry is above the least one by less than the number of entries.
+fn are_near(entries: &[u32], least: u32) -> bool
+    requires { length entries.now < 2 ^ 32 }
+    ensures { IsTrue result ↔ All (λ entry. entry < least + length entries.now) entries.now }
+{
+    let end = least as usize + entries.len();
+    entries.iter().all(|entry| (*entry as usize) < end)
 }
 
 // For each entry how many entries are smaller. This list has the same code.
@@ -71,10 +85,11 @@ fn rank_in(sorted: &[u32], entry: u32) -> usize
     sorted.partition_point(|other| *other < entry)
 }
 
-// The code of numbers that are each below how many numbers there are.
-fn code_of_small(alloc: Global, numbers: &[u32]) -> Result<Vec<u64>, AllocError>
+// The code of numbers of a range that begins with the least and is no longer than they are many.
+fn code_from(alloc: Global, numbers: &[u32], least: u32) -> Result<Vec<u64>, AllocError>
     requires few { length numbers.now < 2 ^ 32 }
-    requires small { All (λ number. number < length numbers.now) numbers.now }
+    requires least { EachIndex numbers.now (λ place. least ≤ slice_index numbers.now place) }
+    requires near { All (λ number. number < least + length numbers.now) numbers.now }
 
     ensures code { IfOk result (λ v. v.items ≡ code_of numbers.now) }
     ensures is_code { IfOk result (λ v. IsArrangementCode v.items) }
@@ -82,14 +97,15 @@ fn code_of_small(alloc: Global, numbers: &[u32]) -> Result<Vec<u64>, AllocError>
 {
     let mut counts = vec![in alloc; 0u32; numbers.len()]?;
     let mut code = vec![in alloc; 0u64; numbers.len()]?;
-    count_later(numbers, &mut counts, &mut code);
+    count_later(numbers, least, &mut counts, &mut code);
     Ok(code)
 }
 
 // Writes the code from its last entry on, each time with the later numbers counted.
-fn count_later(numbers: &[u32], counts: &mut [u32], code: &mut [u64])
+fn count_later(numbers: &[u32], least: u32, counts: &mut [u32], code: &mut [u64])
     requires few { length numbers.now < 2 ^ 32 }
-    requires small { All (λ number. number < length numbers.now) numbers.now }
+    requires least { EachIndex numbers.now (λ place. least ≤ slice_index numbers.now place) }
+    requires near { All (λ number. number < least + length numbers.now) numbers.now }
     requires counts_length { length counts.old ≡ length numbers.now }
     requires code_length { length code.old ≡ length numbers.now }
     requires none_counted { EachIndex counts.old (λ place. slice_index counts.old place ≡ 0) }
@@ -98,6 +114,6 @@ fn count_later(numbers: &[u32], counts: &mut [u32], code: &mut [u64])
     ensures is_code { IsArrangementCode code.new }
 {
     'from_last: for place in (0..numbers.len()).rev() {
-        code[place] = put(counts, numbers[place] as usize);
+        code[place] = put(counts, (numbers[place] - least) as usize);
     }
 }
