@@ -11,7 +11,7 @@ use std::alloc::{AllocError, Global};
 pub(crate) fn limits_of_growth(alloc: Global, count: u32) -> Result<Vec<u64>, AllocError>
     ensures { IfOk result (λ limits. limits.items ≡ growth_bounds 0 count) }
 {
-    let mut limits = Vec::new(alloc);
+    let mut limits = Vec::with_capacity(alloc, count as usize)?;
     for grown in 0..u64::from(count) {
         limits.push(2 * (2 * grown + 1))?;
     }
@@ -36,7 +36,7 @@ pub(crate) fn limits_with_code(
 ) -> Result<Vec<u64>, AllocError>
     ensures { IfOk result (λ limits. limits.items ≡ first ∷ code_bounds length) }
 {
-    let mut limits = Vec::new(alloc);
+    let mut limits = Vec::with_capacity(alloc, length as usize + 1)?;
     limits.push(first)?;
     push_code_limits(&mut limits, length)?;
     Ok(limits)
@@ -50,8 +50,9 @@ pub(crate) fn eulerian_choice_limits(
 ) -> Result<Vec<u64>, AllocError>
     ensures { IfOk result (λ limits. limits.items ≡ eulerian_choices profile.now) }
 {
-    let mut limits = Vec::new(alloc);
-    push_code_limits(&mut limits, profile.edges() + 1)?;
+    let objects = profile.edges() + 1;
+    let mut limits = Vec::with_capacity(alloc, objects as usize + nodes_of(profile) as usize + 1)?;
+    push_code_limits(&mut limits, objects)?;
     for pair in profile.pairs() {
         let patterns = vec![in alloc; pattern_count(pair.0 / 2); pair.1 as usize]?;
         limits.extend_from_slice(&patterns)?;
@@ -70,7 +71,7 @@ pub(crate) fn eulerian_residue_limits(
 {
     let objects = profile.edges() + 1;
     let leaves = objects - nodes_of(profile);
-    let mut limits = Vec::new(alloc);
+    let mut limits = Vec::with_capacity(alloc, objects as usize + 2)?;
     limits.push(u64::from(objects))?;
     for pair in profile.pairs() {
         push_code_limits(&mut limits, pair.1)?;

@@ -36,7 +36,7 @@ fn kinds_of_shape(alloc: Global, nodes: &[bool], ranks: &[u64]) -> Result<Vec<Ki
     ensures { IfOk result (λ kinds. kinds.items ≡ kinds_of_shape nodes.now ranks.now) }
 {
     let mut next = 0;
-    let mut kinds = Vec::new(alloc);
+    let mut kinds = Vec::with_capacity(alloc, nodes.len())?;
     'nodes: for node in nodes {
         if !*node {
             kinds.push(Kind::Leaf)?;

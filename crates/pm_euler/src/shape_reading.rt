@@ -26,8 +26,8 @@ pub(crate) fn shape_and_ranks(alloc: Global, tree: &Tree) -> Result<ShapeAndRank
     ensures planted { IfOk result (λ read. IsWordOfKinds (kinds_of_shape read.nodes.items read.ranks.items) tree.now) }
 {
     let kinds = kinds_of_tree(alloc, tree)?;
-    let mut nodes = Vec::new(alloc);
-    let mut ranks = Vec::new(alloc);
+    let mut nodes = Vec::with_capacity(alloc, kinds.len())?;
+    let mut ranks = Vec::with_capacity(alloc, kinds.len() / 2)?;
     'kinds: for kind in &kinds {
         let Kind::Node { rank, .. } = *kind else {
             nodes.push(false)?;

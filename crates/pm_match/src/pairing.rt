@@ -84,7 +84,7 @@ fn match_letters(alloc: Global, letters: &[u8]) -> Result<Pairing, AllocError>
     ensures { IfOk result (λ found. IsPairing (contour letters.now) found) }
 {
     let places = letters.len() as u32 + 1;
-    let mut pairs = Vec::new(alloc);
+    let mut pairs = Vec::with_capacity(alloc, letters.len() / 2)?;
     let mut waiting = Vec::new(alloc);
     'first: for place in 0..places {
         match letter_at(letters, place) {

@@ -24,7 +24,7 @@ pub fn codes_by_range(
     requires few { length objects.now < 2 ^ 32 }
     ensures { IfOk result (λ codes. codes.items ≡ codes_by_range ranges.now objects.now) }
 {
-    let mut codes = Vec::new(alloc);
+    let mut codes = Vec::with_capacity(alloc, objects.len())?;
     for range in ranges {
         let node_code = code_of_arity(alloc, arities, range.0, objects)?;
         codes.extend_from_slice(&node_code)?;

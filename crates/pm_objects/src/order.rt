@@ -49,7 +49,7 @@ fn arrange_from(alloc: Global, first: u32, code: &[u64]) -> Result<Vec<u32>, All
     ensures long { IfOk result (λ list. length list.items ≡ length code.now) }
 {
     let order = arrange(alloc, code)?;
-    let mut list = Vec::new(alloc);
+    let mut list = Vec::with_capacity(alloc, code.len())?;
     'numbers: for number in &order {
         list.push(first + *number)?;
     }

@@ -36,7 +36,7 @@ fn planted_letters(alloc: Global, kinds: &[Kind]) -> Result<Vec<u8>, AllocError>
     requires good { IsGood 1 (letters_in kinds.now) }
     ensures { IfOk result (λ letters. IsWordOfKinds kinds.now letters.items) }
 {
-    let mut letters = Vec::new(alloc);
+    let mut letters = Vec::with_capacity(alloc, 2 * kinds.len())?;
     let mut ahead = Vec::new(alloc);
     match kinds[0] {
         Kind::Node { half, rank } => add_pattern(rank, half, &mut ahead)?,

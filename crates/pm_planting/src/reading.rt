@@ -14,11 +14,12 @@ pub fn kinds_of_tree(alloc: Global, tree: &Tree) -> Result<Vec<Kind>, AllocError
 {
     let letters = tree.letters();
     let mut entries = Vec::new(alloc);
-    let mut kinds = Vec::new(alloc);
+    let mut pattern = Vec::new(alloc);
+    let mut kinds = Vec::with_capacity(alloc, letters.len() / 2 + 2)?;
     'back: for place in (0..letters.len()).rev() {
         let letter = letters[place];
         if letter == OPEN {
-            kinds.push(end_node(alloc, &mut entries)?)?;
+            kinds.push(end_node(&mut entries, &mut pattern)?)?;
             entries.push(SLOT)?;
         } else if letter == LEAF {
             kinds.push(Kind::Leaf)?;
@@ -27,34 +28,34 @@ pub fn kinds_of_tree(alloc: Global, tree: &Tree) -> Result<Vec<Kind>, AllocError
             entries.push(letter)?;
         }
     }
-    kinds.push(end_node(alloc, &mut entries)?)?;
+    kinds.push(end_node(&mut entries, &mut pattern)?)?;
     kinds.reverse();
     Ok(kinds)
 }
 
-/// Takes off the entries of the last node, and tells its kind.
-fn end_node(alloc: Global, entries: &mut Vec<u8>) -> Result<Kind, AllocError>
+/// Takes off the entries of the last node, which are in the list for its pattern then, and tells its kind.
+fn end_node(entries: &mut Vec<u8>, pattern: &mut Vec<u8>) -> Result<Kind, AllocError>
     requires { (kind : Kind) × IsKind kind × HasKind kind (front_of (reverse entries.old.items)) }
     ensures kind { IfOk result (λ kind. HasKind kind (front_of (reverse entries.old.items))) }
     ensures rest { OnOk result (reverse entries.new.items ≡ behind (reverse entries.old.items)) }
 {
-    let pattern = take_entries(alloc, entries)?;
+    take_entries(entries, pattern)?;
     let half = (pattern.len() as u32 + 1) / 2;
-    let rank = rank(&pattern);
+    let rank = rank(pattern);
     Ok(Kind::Node { half, rank })
 }
 
-/// Takes off the last entries up to a closing bracket, and the bracket.
-fn take_entries(alloc: Global, entries: &mut Vec<u8>) -> Result<Vec<u8>, AllocError>
-    ensures front { IfOk result (λ front. front.items ≡ front_of (reverse entries.old.items)) }
+/// Takes off the last entries up to a closing bracket, and the bracket. The front has them alone then.
+fn take_entries(entries: &mut Vec<u8>, front: &mut Vec<u8>) -> Result<(), AllocError>
+    ensures front { OnOk result (front.new.items ≡ front_of (reverse entries.old.items)) }
     ensures rest { OnOk result (reverse entries.new.items ≡ behind (reverse entries.old.items)) }
 {
-    let mut front = Vec::new(alloc);
+    front.clear();
     'entries: while let Some(entry) = entries.pop() {
         if entry == CLOSE {
-            return Ok(front);
+            return Ok(());
         }
         front.push(entry)?;
     }
-    Ok(front)
+    Ok(())
 }

@@ -7,7 +7,7 @@ use Rattle.pm_euler.proofs.QuarticTrees.{read_none, read_leaf, read_node, read_w
 use Rattle.pm_euler.proofs.shape_reading.shape_and_ranks.Goals as goal
 
 pub kinds-init : goal.kinds-init
-kinds-init c = read_none c.deref-kind-items.result.now c.new-nodes.result.items c.new-ranks.result.items c.new-nodes.ensures.items c.new-ranks.ensures.items
+kinds-init c = read_none c.deref-kind-items.result.now c.in_ok-nodes.nodes.items c.in_ok-ranks.ranks.items c.in_ok-nodes.ensures.items c.in_ok-ranks.ensures.items
 
 pub kinds-preserved-in_default : goal.kinds-preserved-in_default
 kinds-preserved-in_default c =

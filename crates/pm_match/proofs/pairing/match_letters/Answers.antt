@@ -8,7 +8,7 @@ use Rattle.pm_match.proofs.pairing.match_letters.Goals as goal
 use Rattle.pm_match.proofs.pairing.match_letters.Goals.{in-98+in_ok-open-in-98, in-108, in_default, in-98-letter_at, in-108-letter_at, in-108-2+then-not-meet+in_ok-push-in-108-2, in-108-2+else-not-meet, in_default-letter_at}
 
 pub first-init : goal.first-init
-first-init c = first_start _ _ _ c.new-pairs.ensures.items c.new-waiting.ensures.items
+first-init c = first_start _ _ _ c.in_ok-pairs.ensures.items c.new-waiting.ensures.items
 
 pub meet-requires : goal.meet-requires
 meet-requires c = λ some. omega (arith, top_within _ _ _ _ _ some c.first.invariant.reading, c.first.pairs.ok.0)

@@ -12,7 +12,7 @@ unreachable-requires c = root_is_node c.args.kinds.now c.requires.each c.require
 pub letters-init : goal.letters-init
 letters-init c =
     let p = c.in_ok-add_pattern-in-Node.ensures.pattern in
-    begun_start c.args.kinds.now c.new-letters.result.items p.0 c.add_pattern.new.ahead.items c.requires.each c.requires.some c.requires.good c.new-letters.ensures.items (kind_here c.in-Node.half c.in-Node.rank (slice_index_or c.args.kinds.now 0 Leaf) p.0 c.in-Node.is p.1)
+    begun_start c.args.kinds.now c.in_ok-letters.letters.items p.0 c.add_pattern.new.ahead.items c.requires.each c.requires.some c.requires.good c.in_ok-letters.ensures.items (kind_here c.in-Node.half c.in-Node.rank (slice_index_or c.args.kinds.now 0 Leaf) p.0 c.in-Node.is p.1)
     (p.2 ∙ ap (λ (xs : List ℕ). xs ++ reverse p.0) c.new-ahead.ensures.items)
 
 pub letters-preserved-then-letter-ne-SLOT : goal.letters-preserved-then-letter-ne-SLOT

@@ -6,7 +6,7 @@ use Rattle.pm_planting.proofs.ReadingSteps.{IsReadFrom, read_none, read_open, re
 use Rattle.pm_planting.proofs.reading.kinds_of_tree.Goals as goal
 
 pub back-init : goal.back-init
-back-init c = read_none c.letters-letters.result.now (length c.letters-letters.result.now) c.new-entries.result.items c.new-kinds.result.items refl c.new-entries.ensures.items c.new-kinds.ensures.items
+back-init c = read_none c.letters-letters.result.now (length c.letters-letters.result.now) c.new-entries.result.items c.in_ok-kinds.kinds.items refl c.new-entries.ensures.items c.in_ok-kinds.ensures.items
 
 pub end_node-requires : goal.end_node-requires
 end_node-requires c =

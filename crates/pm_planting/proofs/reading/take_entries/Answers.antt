@@ -3,7 +3,7 @@ use Rattle.pm_planting.proofs.ReadingSteps.{taking_none, taking_more, taken_clos
 use Rattle.pm_planting.proofs.reading.take_entries.Goals as goal
 
 pub entries-init : goal.entries-init
-entries-init c = taking_none c.args.entries.now.items c.new-front.result.items c.new-front.ensures.items
+entries-init c = taking_none c.args.entries.now.items c.clear.new.self.items c.clear.ensures.items
 
 pub returns-then-entry-eq-CLOSE-clause-front : goal.returns-then-entry-eq-CLOSE-clause-front
 returns-then-entry-eq-CLOSE-clause-front c =
