@@ -2,6 +2,6 @@
 use Rattle.std.specs.Prelude.{ℕ, List, [], ◌∷◌, ◌++◌, decimal}
 
 -- a space before each number, and its decimal digits (32 is the space)
-abbrev pub number_words : List ℕ → List ℕ
-number_words [] = []
-number_words (number ∷ numbers) = 32 ∷ decimal number ++ number_words numbers
+abbrev pub spaced_numbers : List ℕ → List ℕ
+spaced_numbers [] = []
+spaced_numbers (number ∷ numbers) = 32 ∷ decimal number ++ spaced_numbers numbers

@@ -1,7 +1,7 @@
 //! Writing a list as a line.
 ghost use Rattle.std.specs.Prelude.{◌≡◌, IsTrue, ◌*◌, ◌≤◌, ◌++◌, ◌∷◌, [], length, OnOk, is_ok, if◌then◌else◌};
 ghost use Rattle.pm_lists.specs.ListLine.{AreWords, SpellsList, is_tag, list_line};
-ghost use Rattle.pm_lists.specs.Numbers.{number_words};
+ghost use Rattle.pm_lists.specs.Numbers.{spaced_numbers};
 ghost use Rattle.pm_lists.specs.steps.Numbers.{IsLonger};
 ghost use Rattle.pm_text.specs.Broken.{HasNoNewline, newline};
 
@@ -62,7 +62,7 @@ fn put_line(tag: &[u8], values: &[u64], text: &mut Vec<u8>) -> Result<(), AllocE
 /// Appends a space and the spelling of each number. They are written to the end of `piece` first, the last one first.
 fn put_numbers(values: &[u64], piece: &mut [u8], text: &mut Vec<u8>) -> Result<(), AllocError>
     requires { 21 * length values.now ≤ length piece.old }
-    ensures { text.new.items ≡ (if is_ok result then text.old.items ++ number_words values.now else text.old.items) }
+    ensures { text.new.items ≡ (if is_ok result then text.old.items ++ spaced_numbers values.now else text.old.items) }
 {
     let mut start = piece.len();
     let mut left = values.len();

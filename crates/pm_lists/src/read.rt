@@ -1,7 +1,7 @@
 //! Reading a list from a line.
 ghost use Rattle.std.specs.Prelude.{◌≡◌, ◌≢◌, IsTrue, ℕ, ◌++◌, ◌∷◌, [], List, IfOk, IfErr, OnOk};
 ghost use Rattle.pm_lists.specs.ListLine.{AreWords, SpellsList, is_tag};
-ghost use Rattle.pm_lists.specs.Numbers.{number_words};
+ghost use Rattle.pm_lists.specs.Numbers.{spaced_numbers};
 
 use crate::num_list::NumList;
 use pm_text::leading_number;
@@ -49,9 +49,9 @@ pub fn read_list(alloc: Global, tag: &[u8], line: &[u8]) -> Result<NumList, List
 /// The numbers that the bytes spell, each after one space.
 fn read_numbers(alloc: Global, bytes: &[u8]) -> Result<Vec<u64>, ListTextRefusal>
     ensures words { IfOk result (λ values. AreWords values.items) }
-    ensures ok { IfOk result (λ values. bytes.now ≡ number_words values.items) }
+    ensures ok { IfOk result (λ values. bytes.now ≡ spaced_numbers values.items) }
     ensures text { IfErr result (λ refusal. refusal ≡ ListTextRefusal.Text
-        → (values : List ℕ) → AreWords values → bytes.now ≢ number_words values) }
+        → (values : List ℕ) → AreWords values → bytes.now ≢ spaced_numbers values) }
 {
     // Each number takes two bytes or more.
     let mut values = Vec::with_capacity(alloc, bytes.len() / 2)?;

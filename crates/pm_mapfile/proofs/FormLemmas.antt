@@ -6,7 +6,8 @@ use Rattle.std.proofs.lemmas.List.{append-nil, append_cancel_left}
 use Rattle.std.proofs.lemmas.List.Elements.{All-head, All-tail}
 use Rattle.pm_text.specs.Broken.{newline, lines, first_lines, IsBrokenLine}
 use Rattle.pm_text.proofs.LineLemmas.{HasNoNewline-nil, IsWholeLines, no_whole_lines, one_whole_line, first_lines-whole, first_lines-past, first_lines-fewer, begins_with_whole_lines, is_unfinished}
-use Rattle.pm_mapfile.specs.MapText.{dart_words, vertex_line, vertex_lines, map_line}
+use Rattle.pm_lists.specs.Numbers.{spaced_numbers}
+use Rattle.pm_mapfile.specs.MapText.{vertex_line, vertex_lines, map_line}
 use Rattle.pm_mapfile.specs.MapFile.{MapLines, IsVertexLine, AreMapLines, lines_text}
 use Rattle.pm_mapfile.proofs.NumberLines.{numbers_are_unique}
 use Rattle.pm_mapfile.proofs.TailLemmas.{tag_v_no_space, tag_v_some, tag_map_no_space, tag_map_some, two_fit, cut_alike, v_not_end, end_no_newline, vertex_no_newline, first_text, first_line_spelled, first_no_newline, whole_text}
@@ -127,7 +128,7 @@ whole_vertices : (darts : ℕ) (vertices : List (List ℕ)) → All (IsVertexLin
 whole_vertices darts [] each = no_whole_lines
 whole_vertices darts (v ∷ vertices) each =
     let is = All-head (IsVertexLine darts) v vertices each in
-    let one = one_whole_line (codes "v" ++ dart_words v) (vertex_no_newline v is.fit) in
+    let one = one_whole_line (codes "v" ++ spaced_numbers v) (vertex_no_newline v is.fit) in
     let all = whole_append 1 (length vertices) (vertex_line v) (vertex_lines vertices) one (whole_vertices darts vertices (All-tail (IsVertexLine darts) v vertices each)) in
     subst (λ n. IsWholeLines n (vertex_lines (v ∷ vertices))) (let count : 1 + length vertices ≡ length (v ∷ vertices) = omega arith in count) all
 
@@ -152,24 +153,24 @@ vertices_alike darts more [] [] a b f g e = let alike = cut_alike (codes "end") 
 vertices_alike darts more [] (w ∷ ws) a b f g e =
     let is = All-head (IsVertexLine more) w ws g in
     let tail = vertex_lines ws ++ (codes "end" ++ newline ∷ b) in
-    let grouped = append_assoc (vertex_line w) (vertex_lines ws) (codes "end" ++ newline ∷ b) ∙ append_assoc (codes "v" ++ dart_words w) (newline ∷ []) tail in
-    let alike = cut_alike (codes "end") (codes "v" ++ dart_words w) a tail end_no_newline (vertex_no_newline w is.fit) (e ∙ grouped) in
-    absurd (v_not_end (dart_words w) (sym alike.line))
+    let grouped = append_assoc (vertex_line w) (vertex_lines ws) (codes "end" ++ newline ∷ b) ∙ append_assoc (codes "v" ++ spaced_numbers w) (newline ∷ []) tail in
+    let alike = cut_alike (codes "end") (codes "v" ++ spaced_numbers w) a tail end_no_newline (vertex_no_newline w is.fit) (e ∙ grouped) in
+    absurd (v_not_end (spaced_numbers w) (sym alike.line))
 vertices_alike darts more (v ∷ vs) [] a b f g e =
     let is = All-head (IsVertexLine darts) v vs f in
     let tail = vertex_lines vs ++ (codes "end" ++ newline ∷ a) in
-    let grouped = append_assoc (vertex_line v) (vertex_lines vs) (codes "end" ++ newline ∷ a) ∙ append_assoc (codes "v" ++ dart_words v) (newline ∷ []) tail in
-    let alike = cut_alike (codes "v" ++ dart_words v) (codes "end") tail b (vertex_no_newline v is.fit) end_no_newline (sym grouped ∙ e) in
-    absurd (v_not_end (dart_words v) alike.line)
+    let grouped = append_assoc (vertex_line v) (vertex_lines vs) (codes "end" ++ newline ∷ a) ∙ append_assoc (codes "v" ++ spaced_numbers v) (newline ∷ []) tail in
+    let alike = cut_alike (codes "v" ++ spaced_numbers v) (codes "end") tail b (vertex_no_newline v is.fit) end_no_newline (sym grouped ∙ e) in
+    absurd (v_not_end (spaced_numbers v) alike.line)
 vertices_alike darts more (v ∷ vs) (w ∷ ws) a b f g e =
     let is = All-head (IsVertexLine darts) v vs f in
     let is_w = All-head (IsVertexLine more) w ws g in
     let tail = vertex_lines vs ++ (codes "end" ++ newline ∷ a) in
     let tail_w = vertex_lines ws ++ (codes "end" ++ newline ∷ b) in
-    let grouped = append_assoc (vertex_line v) (vertex_lines vs) (codes "end" ++ newline ∷ a) ∙ append_assoc (codes "v" ++ dart_words v) (newline ∷ []) tail in
-    let grouped_w = append_assoc (vertex_line w) (vertex_lines ws) (codes "end" ++ newline ∷ b) ∙ append_assoc (codes "v" ++ dart_words w) (newline ∷ []) tail_w in
-    let alike = cut_alike (codes "v" ++ dart_words v) (codes "v" ++ dart_words w) tail tail_w (vertex_no_newline v is.fit) (vertex_no_newline w is_w.fit) (sym grouped ∙ e ∙ grouped_w) in
-    let first : v ≡ w = numbers_are_unique (codes "v") (codes "v" ++ dart_words v) v w tag_v_no_space tag_v_some (record { fit = is.fit; spelled = refl }) (record { fit = is_w.fit; spelled = alike.line }) in
+    let grouped = append_assoc (vertex_line v) (vertex_lines vs) (codes "end" ++ newline ∷ a) ∙ append_assoc (codes "v" ++ spaced_numbers v) (newline ∷ []) tail in
+    let grouped_w = append_assoc (vertex_line w) (vertex_lines ws) (codes "end" ++ newline ∷ b) ∙ append_assoc (codes "v" ++ spaced_numbers w) (newline ∷ []) tail_w in
+    let alike = cut_alike (codes "v" ++ spaced_numbers v) (codes "v" ++ spaced_numbers w) tail tail_w (vertex_no_newline v is.fit) (vertex_no_newline w is_w.fit) (sym grouped ∙ e ∙ grouped_w) in
+    let first : v ≡ w = numbers_are_unique (codes "v") (codes "v" ++ spaced_numbers v) v w tag_v_no_space tag_v_some (record { fit = is.fit; spelled = refl }) (record { fit = is_w.fit; spelled = alike.line }) in
     let others = vertices_alike darts more vs ws a b (All-tail (IsVertexLine darts) v vs f) (All-tail (IsVertexLine more) w ws g) alike.rest in
     record { vertices = ap (λ x. x ∷ vs) first ∙ ap (λ xs. w ∷ xs) others.vertices; rest = others.rest }
 

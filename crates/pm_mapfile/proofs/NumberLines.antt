@@ -1,10 +1,9 @@
 -- A line of a tag and numbers, word by word.
-use Rattle.std.proofs.Common.{◌≡◌, ◌≢◌, ℕ, ◌<◌, ◌^◌, Bool, true, false, List, [], ◌∷◌, ◌++◌, length, map, refl, sym, ap, ◌∙◌, subst, arith}
+use Rattle.std.proofs.Common.{◌≡◌, ◌≢◌, ℕ, Bool, true, false, List, [], ◌∷◌, ◌++◌, length, map, refl, sym, ap, ◌∙◌, subst, arith}
 use Rattle.std.specs.Prelude.{All, decimal}
 use Rattle.std.specs.List.{join_with_byte, slice_split}
 use Rattle.std.specs.Str.{bytes_eq}
 use Rattle.std.proofs.lemmas.Slice.Eq.{bytes_eq-Decides}
-use Rattle.std.proofs.lemmas.List.{append-nil}
 use Rattle.std.proofs.lemmas.List.Elements.{All-head, All-tail, All-cons, All-weaker, All-map}
 use Rattle.pm_text.specs.Broken.{HasNoNewline}
 use Rattle.pm_text.specs.Numeral.{IsNumber}
@@ -12,32 +11,24 @@ use Rattle.pm_text.specs.Spaced.{is_space, words, HasNoSpace}
 use Rattle.pm_text.proofs.LineLemmas.{HasNoNewline-nil, HasNoNewline-cons, HasNoNewline-append}
 use Rattle.pm_text.proofs.NumeralLemmas.{number_is_unique, decimal_is_number}
 use Rattle.pm_text.proofs.WordLemmas.{join-words, split-join, number_has_no_space, number_has_no_newline}
-use Rattle.pm_mapfile.specs.MapText.{dart_words}
+use Rattle.pm_lists.specs.Numbers.{spaced_numbers}
 use Rattle.pm_lists.specs.ListLine.{SpellsList, list_line}
-use Rattle.pm_lists.proofs.SpellingLemmas.{has_one_line}
+use Rattle.pm_lists.proofs.NumberLemmas.{Fits64, join-tagged, spells_words, words_spelled}
 use Rattle.pm_mapfile.specs.steps.Lines.{IsNumbersLine}
-
-abbrev pub Fits64 : ℕ → Type 0
-Fits64 number = number < 2 ^ 64
-
--- the tag and the spellings, joined by spaces
-join-tagged : (tag numbers : List ℕ) → join_with_byte 32 (tag ∷ map decimal numbers) ≡ tag ++ dart_words numbers
-join-tagged tag [] = sym (append-nil tag)
-join-tagged tag (n ∷ numbers) = ap (λ l. tag ++ 32 ∷ l) (join-tagged (decimal n) numbers)
 
 spelled_no_space : (numbers : List ℕ) → All Fits64 numbers → All HasNoSpace (map decimal numbers)
 spelled_no_space numbers fit =
     All-map HasNoSpace decimal numbers (All-weaker Fits64 (λ n. HasNoSpace (decimal n)) (λ n h. number_has_no_space (decimal n) n (decimal_is_number n h)) numbers fit)
 
 -- the words of such a line
-pub words-tagged : (tag numbers : List ℕ) → HasNoSpace tag → tag ≢ [] → All Fits64 numbers → words (tag ++ dart_words numbers) ≡ tag ∷ map decimal numbers
+pub words-tagged : (tag numbers : List ℕ) → HasNoSpace tag → tag ≢ [] → All Fits64 numbers → words (tag ++ spaced_numbers numbers) ≡ tag ∷ map decimal numbers
 words-tagged [] numbers h some fit = absurd (some refl)
 words-tagged (byte ∷ tag) numbers h some fit =
     ap (slice_split is_space) (sym (join-tagged (byte ∷ tag) numbers))
     ∙ split-join (byte ∷ tag) (map decimal numbers) (All-cons HasNoSpace (byte ∷ tag) (map decimal numbers) h (spelled_no_space numbers fit))
 
 -- the line of such words
-pub text_of_words : (tag text numbers : List ℕ) → words text ≡ tag ∷ map decimal numbers → text ≡ tag ++ dart_words numbers
+pub text_of_words : (tag text numbers : List ℕ) → words text ≡ tag ∷ map decimal numbers → text ≡ tag ++ spaced_numbers numbers
 text_of_words tag text numbers e = sym (join-words text) ∙ ap (join_with_byte 32) e ∙ join-tagged tag numbers
 
 -- other numbers have other spellings
@@ -63,25 +54,24 @@ numbers_are_unique tag text ns ms h some one other =
     same_numbers ns ms one.fit other.fit spelled
 
 -- no newline stands in such a line
-pub dart_words_no_newline : (numbers : List ℕ) → All Fits64 numbers → HasNoNewline (dart_words numbers)
-dart_words_no_newline [] fit = HasNoNewline-nil
-dart_words_no_newline (n ∷ numbers) fit =
-    HasNoNewline-cons 32 (decimal n ++ dart_words numbers) (omega arith)
-    (HasNoNewline-append (decimal n) (dart_words numbers) (number_has_no_newline (decimal n) n (decimal_is_number n (All-head Fits64 n numbers fit)))
-    (dart_words_no_newline numbers (All-tail Fits64 n numbers fit)))
+pub spaced_no_newline : (numbers : List ℕ) → All Fits64 numbers → HasNoNewline (spaced_numbers numbers)
+spaced_no_newline [] fit = HasNoNewline-nil
+spaced_no_newline (n ∷ numbers) fit =
+    HasNoNewline-cons 32 (decimal n ++ spaced_numbers numbers) (omega arith)
+    (HasNoNewline-append (decimal n) (spaced_numbers numbers) (number_has_no_newline (decimal n) n (decimal_is_number n (All-head Fits64 n numbers fit)))
+    (spaced_no_newline numbers (All-tail Fits64 n numbers fit)))
 
 -- a line of a list is one of the list's numbers
-pub list_line_tagged : (tag numbers : List ℕ) → list_line tag numbers ≡ tag ++ dart_words numbers
+pub list_line_tagged : (tag numbers : List ℕ) → list_line tag numbers ≡ tag ++ spaced_numbers numbers
 list_line_tagged tag numbers = join-tagged tag numbers
 
 pub numbers_of_list : (tag text numbers : List ℕ) → SpellsList tag text numbers → IsNumbersLine tag text numbers
 numbers_of_list tag text numbers s =
-    let one = (has_one_line tag text numbers).0 s in
-    record { fit = one.0.each; spelled = one.1 ∙ join-tagged tag numbers }
+    let words = words_spelled tag text numbers s in record { fit = words.0.each; spelled = words.1 }
 
 pub list_of_numbers : (tag text numbers : List ℕ) → IsNumbersLine tag text numbers → SpellsList tag text numbers
 list_of_numbers tag text numbers line =
-    (has_one_line tag text numbers).1 (record { each = line.fit }, line.spelled ∙ sym (join-tagged tag numbers))
+    spells_words tag text (spaced_numbers numbers) numbers line.spelled (record { each = line.fit }) refl
 
 -- what a test that bytes are the same tells
 pub told_equal : (xs ys : List ℕ) (r : Bool) → r ≡ bytes_eq xs ys → r ≡ true → xs ≡ ys

@@ -1,71 +1,28 @@
 -- The lines of vertices, printed one after another.
-use Rattle.std.proofs.Common.{◌≡◌, ℕ, ◌+◌, ◌-◌, ◌/◌, ◌<◌, ◌≤◌, List, [], ◌∷◌, ◌++◌, ◌^◌, ◌*◌, length, take, drop, set, map, get_or, refl, sym, ◌∙◌, ap, arith, append_assoc, length-append}
-use Rattle.std.specs.Prelude.{decimal, codes, sum, Result, Ok, Err, IfOk, Vec}
+use Rattle.std.proofs.Common.{◌≡◌, ℕ, ◌+◌, ◌-◌, ◌/◌, ◌<◌, ◌≤◌, List, [], ◌∷◌, ◌++◌, ◌^◌, ◌*◌, length, take, drop, map, get_or, refl, sym, ◌∙◌, ap, arith, append_assoc, length-append}
+use Rattle.std.specs.Prelude.{codes, sum, Result, Ok, Err, IfOk, Vec}
 use Rattle.std.specs.declared.alloc.Global.{Global}
-use Rattle.std.proofs.lemmas.List.{append-nil, drop-set, length-set, drop_more, drop-drop, drop_all, take_at, drop_at}
-use Rattle.std.proofs.Math.Seq.{take-add}
-use Rattle.std.proofs.lemmas.Fmt.{length-decimal-le}
+use Rattle.std.proofs.lemmas.List.{append-nil, drop_more, drop-drop, drop_all, take_at, drop_at}
 use Rattle.std.proofs.lemmas.List.Sums.{sum_by-append}
+use Rattle.pm_lists.proofs.NumberLemmas.{Fits64, words_few}
+use Rattle.std.proofs.lemmas.List.Elements.{All-from_get_or}
 use Rattle.pm_map.specs.Rotation.{RotationSystem, structure_of}
 use Rattle.pm_map.specs.Meeting.{darts_of}
 use Rattle.pm_canon.specs.VertexList.{IsVertexList, IsCanonicalList}
-use Rattle.pm_mapfile.specs.MapText.{dart_words, vertex_line, vertex_lines, map_line, HasCanonicalText, IsMapText}
+use Rattle.pm_lists.specs.Numbers.{spaced_numbers}
+use Rattle.pm_mapfile.specs.MapText.{vertex_line, vertex_lines, map_line, HasCanonicalText, IsMapText}
 use Rattle.pm_mapfile.specs.steps.Printed.{cut}
-
-pub dart_words-append : (first second : List ℕ) → dart_words (first ++ second) ≡ dart_words first ++ dart_words second
-dart_words-append [] second = refl
-dart_words-append (d ∷ first) second =
-    ap (λ l. 32 ∷ decimal d ++ l) (dart_words-append first second) ∙ sym (append_assoc (32 ∷ decimal d) (dart_words first) (dart_words second))
 
 pub vertex_lines-append : (first second : List (List ℕ)) → vertex_lines (first ++ second) ≡ vertex_lines first ++ vertex_lines second
 vertex_lines-append [] second = refl
 vertex_lines-append (v ∷ first) second =
     ap (λ l. vertex_line v ++ l) (vertex_lines-append first second) ∙ sym (append_assoc (vertex_line v) (vertex_lines first) (vertex_lines second))
 
--- the darts from a place on stand at the end of the bytes, and there is room for those before
-pub record ArePut (darts bytes : List ℕ) (left start : ℕ) : Type 0 where
-  pub within : left ≤ length darts
-  pub room : 11 * left ≤ start
-  pub inside : start ≤ length bytes
-  pub put : drop start bytes ≡ dart_words (drop left darts)
-
-pub put_none : (darts bytes : List ℕ) → 11 * length darts ≤ length bytes → ArePut darts bytes (length darts) (length bytes)
-put_none darts bytes room = record {
-  within = omega arith;
-  room = room;
-  inside = omega arith;
-  put = drop_all (length bytes) bytes (omega arith) ∙ ap dart_words (sym (drop_all (length darts) darts (omega arith)));
-}
-
--- the digits of a dart are at most ten
-pub dart_short : (dart : ℕ) → dart < 2 ^ 32 → length (decimal dart) ≤ 10
-dart_short dart fits = length-decimal-le 10 dart (omega arith) (omega arith) (omega arith)
-
--- one dart more, with a space before it
-pub put_more : (darts bytes new : List ℕ) (left start digits : ℕ) → ArePut darts bytes (left + 1) start → get_or darts left 0 < 2 ^ 32
-    → digits + length (decimal (get_or darts left 0)) ≡ start → drop digits new ≡ decimal (get_or darts left 0) ++ drop start bytes → length new ≡ length bytes
-    → ArePut darts (set new (digits - 1) 32) left (digits - 1)
-put_more darts bytes new left start digits p fits at written size =
-    let dart = get_or darts left 0 in
-    let short = dart_short dart fits in
-    let some : digits - 1 + 1 ≡ digits = omega (arith, p.room, at, short) in
-    record {
-      within = omega (arith, p.within);
-      room = omega (arith, p.room, at, short);
-      inside = omega (arith, p.inside, at, size, length-set new (digits - 1) 32);
-      put = drop-set new (digits - 1) 32 (omega (arith, p.room, p.inside, at, short, size)) ∙ ap (λ n. 32 ∷ drop n new) some
-          ∙ ap (λ l. 32 ∷ l) (written ∙ ap (λ l. decimal dart ++ l) p.put) ∙ ap dart_words (sym (drop_more darts left 0 (omega (arith, p.within))));
-    }
-
--- some darts more of a line
-pub line_goes_on : (vertex old text new : List ℕ) (start count : ℕ) → start + count ≤ length vertex → text ≡ old ++ (codes "v" ++ dart_words (take start vertex))
-    → new ≡ text ++ dart_words (take (start + count - start) (drop start vertex)) → new ≡ old ++ (codes "v" ++ dart_words (take (start + count) vertex))
-line_goes_on vertex old text new start count h is added =
-    let more = take count (drop start vertex) in
-    let long : start + count - start ≡ count = omega arith in
-    added ∙ ap (λ n. text ++ dart_words (take n (drop start vertex))) long ∙ ap (λ l. l ++ dart_words more) is
-    ∙ append_assoc old (codes "v" ++ dart_words (take start vertex)) (dart_words more)
-    ∙ ap (λ l. old ++ (codes "v" ++ l)) (sym (dart_words-append (take start vertex) more) ∙ ap dart_words (sym (take-add start count vertex)))
+-- so many darts fit into so many bytes
+pub darts_fit : (darts bytes : List ℕ) → 11 * length darts ≤ length bytes → ((k : ℕ) → get_or darts k 0 < 2 ^ 32) → length (spaced_numbers darts) ≤ length bytes
+darts_fit darts bytes room fits =
+    let few = words_few 10 darts (omega arith) (All-from_get_or (λ n. n < 10 ^ 10) darts 0 (λ k _. omega (arith, fits k))) (All-from_get_or Fits64 darts 0 (λ k _. omega (arith, fits k))) in
+    omega (arith, room, few)
 
 -- the lists that a list of vertices was made of
 pub cut-list : (vertices : List (List ℕ)) → cut (map length vertices) (darts_of vertices) ≡ vertices

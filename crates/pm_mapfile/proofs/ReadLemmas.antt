@@ -11,11 +11,13 @@ use Rattle.pm_text.specs.Reading.{Reading, reading_of, IsNextLine}
 use Rattle.pm_text.proofs.LineLemmas.{IsWholeLines, no_whole_lines}
 use Rattle.pm_text.proofs.ReadingLemmas.{whole_after_line}
 use Rattle.pm_text.proofs.ReaderLemmas.{broken_at_line, broken_at_end}
-use Rattle.pm_mapfile.specs.MapText.{dart_words, vertex_line, vertex_lines, map_line}
+use Rattle.pm_lists.specs.Numbers.{spaced_numbers}
+use Rattle.pm_mapfile.specs.MapText.{vertex_line, vertex_lines, map_line}
 use Rattle.pm_mapfile.specs.MapFile.{MapLines, IsFirstLine, IsVertexLine, lines_text, BeginsWithMapText}
 use Rattle.pm_mapfile.specs.steps.Lines.{IsNumbersLine, IsReadMap, HasNoVertex, ReadsVertex}
 use Rattle.pm_mapfile.proofs.PrintLemmas.{vertex_lines-append}
-use Rattle.pm_mapfile.proofs.NumberLines.{Fits64, numbers_are_unique}
+use Rattle.pm_lists.proofs.NumberLemmas.{Fits64}
+use Rattle.pm_mapfile.proofs.NumberLines.{numbers_are_unique}
 use Rattle.pm_mapfile.proofs.TailLemmas.{IsTail, IsNextOf, ends, goes_on, next_of_tail, tail_has_newline, some_tail, FollowsLines, past_lines, before_lines, first_of_text, text_of_first, first_text, first_line_spelled, first_no_newline, vertex_no_newline, two_fit, text_has_newline, v_not_end, tag_map_no_space, tag_map_some}
 
 -- the map without darts begins every text that has no line yet
@@ -141,7 +143,7 @@ end_broken after edges root bytes text darts sizes old new r next is few =
     next_broken after edges root bytes text darts sizes old new r next
     (λ need more total n. elim n [
       | ends _ none ↦ few (omega (arith, total, none))
-      | goes_on vertex _ line _ _ _ ↦ v_not_end (dart_words vertex) (sym line.spelled ∙ is)
+      | goes_on vertex _ line _ _ _ ↦ v_not_end (spaced_numbers vertex) (sym line.spelled ∙ is)
     ])
 
 -- the line is neither `end` nor that of a vertex for which there is room
@@ -186,10 +188,10 @@ skipped old count = record { given = old.given ++ take count old.rest; rest = dr
 
 -- the line of a vertex at the front of what is left is the next line
 line_of_vertex : (count : ℕ) (vertex : List ℕ) (old : Reading) → All Fits64 vertex → take count old.rest ≡ vertex_line vertex
-    → IsNextLine old (skipped old count) (codes "v" ++ dart_words vertex) true (length (old.given ++ take count old.rest))
+    → IsNextLine old (skipped old count) (codes "v" ++ spaced_numbers vertex) true (length (old.given ++ take count old.rest))
 line_of_vertex count vertex old fit line = record {
   no_newline = vertex_no_newline vertex fit;
-  left = sym (take-append-drop count old.rest) ∙ ap (λ l. l ++ drop count old.rest) line ∙ append_assoc (codes "v" ++ dart_words vertex) (newline ∷ []) (drop count old.rest);
+  left = sym (take-append-drop count old.rest) ∙ ap (λ l. l ++ drop count old.rest) line ∙ append_assoc (codes "v" ++ spaced_numbers vertex) (newline ∷ []) (drop count old.rest);
   now_given = ap (λ l. old.given ++ l) line;
   place = refl;
   unfinished = λ e. absurd (true≢false e);
@@ -200,7 +202,7 @@ pub read_vertex_more : (edges root count : ℕ) (bytes darts sizes more_darts mo
 read_vertex_more edges root count bytes darts sizes more_darts more_sizes old r v =
     let read = v.read in
     let next = line_of_vertex count read.vertex old read.is_vertex.fit read.line in
-    read_more (length (old.given ++ take count old.rest)) edges root bytes (codes "v" ++ dart_words read.vertex) read.vertex darts sizes more_darts more_sizes old (skipped old count) r next
+    read_more (length (old.given ++ take count old.rest)) edges root bytes (codes "v" ++ spaced_numbers read.vertex) read.vertex darts sizes more_darts more_sizes old (skipped old count) r next
     (record { fit = read.is_vertex.fit; spelled = refl }) read.is_vertex read.appended read.room v.sized
 
 -- the same darts and sizes
@@ -219,7 +221,7 @@ vertex_takes darts count bytes old new old_sizes new_sizes v =
       length-drop count bytes,
       length-take-le count bytes read.within,
       ap length read.line,
-      length-append (codes "v" ++ dart_words read.vertex) (10 ∷ []),
+      length-append (codes "v" ++ spaced_numbers read.vertex) (10 ∷ []),
     )
 
 -- the same, where the line is counted by `line`
@@ -241,4 +243,4 @@ vertex_broken_told after edges root line bytes text darts sizes old new e r next
     counted bytes line (length sizes + 1 + 1) (omega (arith, e))
     (vertex_broken after edges root bytes text darts sizes old new r next other
     (λ vertex spelled is room. none vertex new.rest is room
-    (next.left ∙ ap (λ l. l ++ newline ∷ new.rest) spelled.spelled ∙ sym (append_assoc (codes "v" ++ dart_words vertex) (newline ∷ []) new.rest))))
+    (next.left ∙ ap (λ l. l ++ newline ∷ new.rest) spelled.spelled ∙ sym (append_assoc (codes "v" ++ spaced_numbers vertex) (newline ∷ []) new.rest))))

@@ -12,10 +12,11 @@ use Rattle.pm_text.proofs.BrokenLemmas.{next_line_is_broken}
 use Rattle.pm_text.proofs.ReaderLemmas.{broken_at_line, broken_at_end}
 use Rattle.pm_lists.specs.ListLine.{list_line}
 use Rattle.pm_mapfile.proofs.NumberLines.{list_line_tagged}
-use Rattle.pm_mapfile.specs.MapText.{dart_words}
+use Rattle.pm_lists.specs.Numbers.{spaced_numbers}
 use Rattle.pm_mapfile.specs.MapFile.{MapLines, lines_text, IsTextBefore, IsAfterMap, IsResidue}
 use Rattle.pm_mapfile.specs.steps.Lines.{IsNumbersLine, IsReadMap}
-use Rattle.pm_mapfile.proofs.NumberLines.{Fits64, dart_words_no_newline}
+use Rattle.pm_lists.proofs.NumberLemmas.{Fits64}
+use Rattle.pm_mapfile.proofs.NumberLines.{spaced_no_newline}
 use Rattle.pm_mapfile.proofs.TailLemmas.{cut_alike, has_newline}
 use Rattle.pm_mapfile.proofs.FormLemmas.{broken_past_front, whole_map_text, after_alike}
 use Rattle.pm_mapfile.proofs.FileLemmas.{cut_after}
@@ -33,8 +34,8 @@ tag_residue_no_newline =
     HasNoNewline-cons 114 (codes "esidue") (omega arith) (HasNoNewline-cons 101 (codes "sidue") (omega arith) (HasNoNewline-cons 115 (codes "idue") (omega arith)
     (HasNoNewline-cons 105 (codes "due") (omega arith) (HasNoNewline-cons 100 (codes "ue") (omega arith) (HasNoNewline-cons 117 (codes "e") (omega arith) (HasNoNewline-cons 101 [] (omega arith) HasNoNewline-nil))))))
 
-residue_no_newline : (numbers : List ℕ) → All Fits64 numbers → HasNoNewline (codes "residue" ++ dart_words numbers)
-residue_no_newline numbers fit = HasNoNewline-append (codes "residue") (dart_words numbers) tag_residue_no_newline (dart_words_no_newline numbers fit)
+residue_no_newline : (numbers : List ℕ) → All Fits64 numbers → HasNoNewline (codes "residue" ++ spaced_numbers numbers)
+residue_no_newline numbers fit = HasNoNewline-append (codes "residue") (spaced_numbers numbers) tag_residue_no_newline (spaced_no_newline numbers fit)
 
 -- nothing may stand after a map text
 pub nothing_after : IsAfterMap []
@@ -53,8 +54,8 @@ pub record IsWholeResidue (text more : List ℕ) : Type 0 where
 residue_line_of : (text more : List ℕ) (residue : Option (List ℕ)) → HasNoNewline text → IsResidue residue (text ++ newline ∷ more) → IsWholeResidue text more
 residue_line_of text more None h is = absurd (no_line text more is.spelled)
 residue_line_of text more (Some numbers) h is =
-    let spelled : text ++ newline ∷ more ≡ (codes "residue" ++ dart_words numbers) ++ newline ∷ [] = is.spelled ∙ ap (λ l. l ++ newline ∷ []) (list_line_tagged (codes "residue") numbers) in
-    let alike = cut_alike text (codes "residue" ++ dart_words numbers) more [] h (residue_no_newline numbers is.fit.each) spelled in
+    let spelled : text ++ newline ∷ more ≡ (codes "residue" ++ spaced_numbers numbers) ++ newline ∷ [] = is.spelled ∙ ap (λ l. l ++ newline ∷ []) (list_line_tagged (codes "residue") numbers) in
+    let alike = cut_alike text (codes "residue" ++ spaced_numbers numbers) more [] h (residue_no_newline numbers is.fit.each) spelled in
     record { numbers = numbers; line = record { fit = is.fit.each; spelled = alike.line }; ends = alike.rest }
 
 pub residue_line : (text more : List ℕ) → HasNoNewline text → IsAfterMap (text ++ newline ∷ more) → IsWholeResidue text more

@@ -9,7 +9,7 @@ use Rattle.pm_lists.specs.ListLine.{list_line}
 use Rattle.pm_lists.proofs.SpellingLemmas.{line_has_no_newline, tag_parts}
 use Rattle.pm_mapfile.specs.MapFile.{MapLines, AreMapLines, lines_text, IsResidue, residue_text, IsResidueLine, IsMapFile, IsSampleFile}
 use Rattle.pm_mapfile.specs.steps.Lines.{IsReadMap}
-use Rattle.pm_mapfile.proofs.NumberLines.{Fits64}
+use Rattle.pm_lists.proofs.NumberLemmas.{Fits64}
 use Rattle.pm_mapfile.proofs.FormLemmas.{GoesOnTo, broken_in_longer, whole_map_text}
 use Rattle.pm_mapfile.proofs.ResidueLemmas.{after_broken}
 

@@ -9,11 +9,13 @@ use Rattle.pm_text.specs.Broken.{newline, HasNoNewline}
 use Rattle.pm_text.specs.Spaced.{HasNoSpace}
 use Rattle.pm_text.proofs.LineLemmas.{HasNoNewline-nil, HasNoNewline-cons, HasNoNewline-head, HasNoNewline-tail, HasNoNewline-append}
 use Rattle.pm_text.proofs.WordLemmas.{HasNoSpace-nil, HasNoSpace-cons}
-use Rattle.pm_mapfile.specs.MapText.{dart_words, vertex_line, vertex_lines, map_line}
+use Rattle.pm_lists.specs.Numbers.{spaced_numbers}
+use Rattle.pm_mapfile.specs.MapText.{vertex_line, vertex_lines, map_line}
 use Rattle.pm_mapfile.specs.MapFile.{MapLines, IsFirstLine, IsVertexLine, lines_text, BeginsWithMapText}
 use Rattle.pm_mapfile.specs.steps.Lines.{IsNumbersLine}
 use Rattle.pm_mapfile.proofs.PrintLemmas.{vertex_lines-append}
-use Rattle.pm_mapfile.proofs.NumberLines.{Fits64, numbers_are_unique, dart_words_no_newline}
+use Rattle.pm_lists.proofs.NumberLemmas.{Fits64}
+use Rattle.pm_mapfile.proofs.NumberLines.{numbers_are_unique, spaced_no_newline}
 
 -- two texts that are the same have the same first line
 pub record AreCutAlike (a b r s : List ℕ) : Type 0 where
@@ -58,18 +60,18 @@ tag_map_no_newline = HasNoNewline-cons 109 (codes "ap") (omega arith) (HasNoNewl
 pub end_no_newline : HasNoNewline (codes "end")
 end_no_newline = HasNoNewline-cons 101 (codes "nd") (omega arith) (HasNoNewline-cons 110 (codes "d") (omega arith) (HasNoNewline-cons 100 [] (omega arith) HasNoNewline-nil))
 
-pub vertex_no_newline : (vertex : List ℕ) → All Fits64 vertex → HasNoNewline (codes "v" ++ dart_words vertex)
-vertex_no_newline vertex fit = HasNoNewline-append (codes "v") (dart_words vertex) tag_v_no_newline (dart_words_no_newline vertex fit)
+pub vertex_no_newline : (vertex : List ℕ) → All Fits64 vertex → HasNoNewline (codes "v" ++ spaced_numbers vertex)
+vertex_no_newline vertex fit = HasNoNewline-append (codes "v") (spaced_numbers vertex) tag_v_no_newline (spaced_no_newline vertex fit)
 
 -- the first line without its newline
 abbrev pub first_text : ℕ → ℕ → List ℕ
-first_text edges root = codes "map" ++ dart_words (edges ∷ root ∷ [])
+first_text edges root = codes "map" ++ spaced_numbers (edges ∷ root ∷ [])
 
 pub two_fit : (edges root : ℕ) → IsFirstLine edges root → All Fits64 (edges ∷ root ∷ [])
 two_fit edges root f = All-cons Fits64 edges (root ∷ []) f.edges_fit (All-cons Fits64 root [] f.root_fits (All-nil Fits64))
 
 pub first_no_newline : (edges root : ℕ) → IsFirstLine edges root → HasNoNewline (first_text edges root)
-first_no_newline edges root f = HasNoNewline-append (codes "map") (dart_words (edges ∷ root ∷ [])) tag_map_no_newline (dart_words_no_newline (edges ∷ root ∷ []) (two_fit edges root f))
+first_no_newline edges root f = HasNoNewline-append (codes "map") (spaced_numbers (edges ∷ root ∷ [])) tag_map_no_newline (spaced_no_newline (edges ∷ root ∷ []) (two_fit edges root f))
 
 pub first_line_spelled : (edges root : ℕ) → map_line edges root ≡ first_text edges root ++ newline ∷ []
 first_line_spelled edges root =
@@ -98,9 +100,9 @@ next_of darts need text more (v ∷ vertices) rest h each count e =
     let is = All-head (IsVertexLine darts) v vertices each in
     let others = All-tail (IsVertexLine darts) v vertices each in
     let tail = vertex_lines vertices ++ (codes "end" ++ newline ∷ rest) in
-    let grouped : text ++ newline ∷ more ≡ (codes "v" ++ dart_words v) ++ newline ∷ tail =
-    e ∙ append_assoc (vertex_line v) (vertex_lines vertices) (codes "end" ++ newline ∷ rest) ∙ append_assoc (codes "v" ++ dart_words v) (newline ∷ []) tail in
-    let alike = cut_alike text (codes "v" ++ dart_words v) more tail h (vertex_no_newline v is.fit) grouped in
+    let grouped : text ++ newline ∷ more ≡ (codes "v" ++ spaced_numbers v) ++ newline ∷ tail =
+    e ∙ append_assoc (vertex_line v) (vertex_lines vertices) (codes "end" ++ newline ∷ rest) ∙ append_assoc (codes "v" ++ spaced_numbers v) (newline ∷ []) tail in
+    let alike = cut_alike text (codes "v" ++ spaced_numbers v) more tail h (vertex_no_newline v is.fit) grouped in
     goes_on v (length (concat vertices)) (record { fit = is.fit; spelled = alike.line }) is (sym (length-append v (concat vertices)) ∙ count)
     (record { vertices = vertices; each = others; count = refl; rest = rest; spelled = alike.rest })
 
@@ -155,12 +157,12 @@ past_lines darts need [] tail each t = record { after = need; total = omega arit
 past_lines darts need (v ∷ vertices) tail each t =
     let is = All-head (IsVertexLine darts) v vertices each in
     let others = All-tail (IsVertexLine darts) v vertices each in
-    let text = codes "v" ++ dart_words v in
+    let text = codes "v" ++ spaced_numbers v in
     let more = vertex_lines vertices ++ tail in
     let grouped : vertex_lines (v ∷ vertices) ++ tail ≡ text ++ newline ∷ more =
     append_assoc (vertex_line v) (vertex_lines vertices) tail ∙ append_assoc text (newline ∷ []) more in
     elim (next_of_tail darts need text more (vertex_no_newline v is.fit) (subst (IsTail darts need) grouped t)) [
-      | ends e _ ↦ absurd (v_not_end (dart_words v) e)
+      | ends e _ ↦ absurd (v_not_end (spaced_numbers v) e)
       | goes_on w after line _ total later ↦
           let same : v ≡ w = numbers_are_unique (codes "v") text v w tag_v_no_space tag_v_some (record { fit = is.fit; spelled = refl }) line in
           let past = past_lines darts after vertices tail others later in

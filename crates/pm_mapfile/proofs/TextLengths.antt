@@ -2,7 +2,6 @@
 use Rattle.std.proofs.Common.{◌≡◌, ℕ, suc, ◌+◌, ◌*◌, ◌<◌, ◌≤◌, ◌^◌, List, [], ◌∷◌, ◌++◌, length, length-append, decimal, inl, inr, Ok, refl, ap, arith}
 use Rattle.std.specs.Prelude.{All, Some, codes}
 use Rattle.std.specs.List.{concat}
-use Rattle.std.proofs.Math.Nat.{suc-mul}
 use Rattle.std.proofs.lemmas.Bool.{cases_eq}
 use Rattle.std.proofs.lemmas.Fmt.{length-decimal-le}
 use Rattle.std.proofs.lemmas.List.Elements.{All-head, All-tail, All-get_or, All-from_get_or}
@@ -11,25 +10,18 @@ use Rattle.pm_text.specs.Broken.{newline}
 use Rattle.pm_lists.specs.ListLine.{AreWords, list_line}
 use Rattle.pm_lists.specs.Valid.{IsValidList}
 use Rattle.pm_map.specs.Rotation.{RotationSystem}
-use Rattle.pm_mapfile.specs.MapText.{dart_words, vertex_line, vertex_lines, map_line}
+use Rattle.pm_lists.specs.Numbers.{spaced_numbers}
+use Rattle.pm_mapfile.specs.MapText.{vertex_line, vertex_lines, map_line}
 use Rattle.pm_mapfile.specs.MapFile.{MapLines, AreMapLines, IsVertexLine, lines_text}
 use Rattle.pm_mapfile.specs.Answers.{AnswersFile}
+use Rattle.pm_lists.proofs.NumberLemmas.{words_few}
 use Rattle.pm_mapfile.proofs.NumberLines.{list_line_tagged}
-
--- the words of numbers with at most so many digits, each with a space before it
-words_few : (digits : ℕ) (numbers : List ℕ) → 0 < digits → All (λ number. number < 10 ^ digits) numbers → All (λ number. number < 2 ^ 64) numbers
-    → length (dart_words numbers) ≤ length numbers * suc digits
-words_few digits [] some low fit = omega arith
-words_few digits (number ∷ numbers) some low fit =
-    let here = length-decimal-le digits number some (All-head (λ n. n < 10 ^ digits) number numbers low) (All-head (λ n. n < 2 ^ 64) number numbers fit) in
-    let rest = words_few digits numbers some (All-tail (λ n. n < 10 ^ digits) number numbers low) (All-tail (λ n. n < 2 ^ 64) number numbers fit) in
-    omega (arith, here, rest, length-append (decimal number) (dart_words numbers), suc-mul (length numbers) (suc digits))
 
 -- the line of a list with its newline
 pub line_few : (digits : ℕ) (tag numbers : List ℕ) → 0 < digits → All (λ number. number < 10 ^ digits) numbers → All (λ number. number < 2 ^ 64) numbers
     → length (list_line tag numbers ++ newline ∷ []) ≤ length tag + length numbers * suc digits + 1
 line_few digits tag numbers some low fit =
-    omega (arith, ap length (list_line_tagged tag numbers), length-append tag (dart_words numbers), length-append (list_line tag numbers) (newline ∷ []), words_few digits numbers some low fit)
+    omega (arith, ap length (list_line_tagged tag numbers), length-append tag (spaced_numbers numbers), length-append (list_line tag numbers) (newline ∷ []), words_few digits numbers some low fit)
 
 -- numbers below a bound are below a greater one
 all_below : (a b : ℕ) (numbers : List ℕ) → a ≤ b → All (λ n. n < a) numbers → All (λ n. n < b) numbers
@@ -56,8 +48,8 @@ vertices_few darts (vertex ∷ vertices) few each =
         words,
         length-append (vertex_line vertex) (vertex_lines vertices),
         length-append vertex (concat vertices),
-        length-append (codes "v") (dart_words vertex ++ 10 ∷ []),
-        length-append (dart_words vertex) (10 ∷ []),
+        length-append (codes "v") (spaced_numbers vertex ++ 10 ∷ []),
+        length-append (spaced_numbers vertex) (10 ∷ []),
       );
       lines = omega (arith, lines, some, length-append vertex (concat vertices));
     }

@@ -1,17 +1,13 @@
 -- The text of a map: a line `map E R` with the number of edges and the root, a line for each vertex, and a line `end`.
 use Rattle.std.specs.Prelude.{◌≡◌, ℕ, ◌/◌, List, [], ◌∷◌, ◌++◌, length, decimal, codes}
+use Rattle.pm_lists.specs.Numbers.{spaced_numbers}
 use Rattle.pm_map.specs.Rotation.{RotationSystem, structure_of}
 use Rattle.pm_map.specs.Meeting.{IsMeetingList}
 use Rattle.pm_map.specs.Canonical.{IsCanonicalOf}
 
--- a space before each dart (32 is the space, 10 the newline)
-abbrev pub dart_words : List ℕ → List ℕ
-dart_words [] = []
-dart_words (d ∷ darts) = 32 ∷ decimal d ++ dart_words darts
-
--- the line of a vertex: `v`, and its darts in order
+-- the line of a vertex: `v`, and its darts in order, each after a space (10 is the newline)
 abbrev pub vertex_line : List ℕ → List ℕ
-vertex_line vertex = codes "v" ++ dart_words vertex ++ 10 ∷ []
+vertex_line vertex = codes "v" ++ spaced_numbers vertex ++ 10 ∷ []
 
 -- the lines of some vertices
 abbrev pub vertex_lines : List (List ℕ) → List ℕ

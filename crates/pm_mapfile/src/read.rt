@@ -1,8 +1,9 @@
 //! The lines of a map text.
 ghost use Rattle.std.specs.Prelude.{◌≡◌, ◌*◌, ◌<◌, ◌^◌, ℕ, true, length, IfOk, MatchOption};
+ghost use Rattle.pm_lists.specs.steps.Numbers.{IsLonger};
 ghost use Rattle.pm_text.specs.Broken.{HasNoNewline};
 ghost use Rattle.pm_text.specs.Reading.{IsNextLine};
-ghost use Rattle.pm_mapfile.specs.steps.Lines.{HasNoVertex, IsFirstText, IsLonger, ReadsDarts, ReadsVertex};
+ghost use Rattle.pm_mapfile.specs.steps.Lines.{HasNoVertex, IsFirstText, ReadsDarts, ReadsVertex};
 ghost use Rattle.pm_mapfile.specs.steps.ReadText.{IsReadTextAnswer};
 
 use crate::numbers::read_numbers;

@@ -1,5 +1,6 @@
 ghost use Rattle.std.specs.Prelude.{◌≡◌, ◌*◌, ◌≤◌, ◌++◌, codes, length, sum, IfOk, OnOk, OnErr};
-ghost use Rattle.pm_mapfile.specs.MapText.{dart_words, map_line, vertex_line, vertex_lines, HasCanonicalText, HasOneText, IsMapText, AppendsMapText};
+ghost use Rattle.pm_lists.specs.Numbers.{spaced_numbers};
+ghost use Rattle.pm_mapfile.specs.MapText.{map_line, vertex_line, vertex_lines, HasCanonicalText, HasOneText, IsMapText, AppendsMapText};
 ghost use Rattle.pm_mapfile.specs.steps.Printed.{cut};
 
 use itoa::write_digits;
@@ -131,7 +132,7 @@ fn put_vertex(vertex: &[u32], piece: &mut [u8], text: &mut Vec<u8>) -> Result<()
 /// Appends a space and the spelling of each dart. They are written to the end of `piece` first, the last one first.
 fn put_darts(darts: &[u32], piece: &mut [u8], text: &mut Vec<u8>) -> Result<(), AllocError>
     requires { 11 * length darts.now ≤ length piece.old }
-    ensures { OnOk result (text.new.items ≡ text.old.items ++ dart_words darts.now) }
+    ensures { OnOk result (text.new.items ≡ text.old.items ++ spaced_numbers darts.now) }
 {
     let mut start = piece.len();
     let mut left = darts.len();

@@ -1,7 +1,7 @@
 -- How far the numbers of a line are read or put.
 use Rattle.std.specs.Prelude.{◌≡◌, ◌≢◌, ℕ, ◌<◌, ◌≤◌, ◌^◌, List, ◌++◌, All, length, slice_index, take, drop}
 use Rattle.pm_text.specs.Numeral.{HasDigit}
-use Rattle.pm_lists.specs.Numbers.{number_words}
+use Rattle.pm_lists.specs.Numbers.{spaced_numbers}
 
 -- neither a digit nor a space comes first, so numbers before these bytes end with them
 pub record EndsNumbers (tail : List ℕ) : Type 0 where
@@ -12,23 +12,23 @@ pub record EndsNumbers (tail : List ℕ) : Type 0 where
 pub record HasLater (numbers whole rest tail : List ℕ) : Type 0 where
   pub later : List ℕ
   pub whole_is : whole ≡ numbers ++ later
-  pub rest_is : rest ≡ number_words later ++ tail
+  pub rest_is : rest ≡ spaced_numbers later ++ tail
 
 -- the bytes up to this place are a tag and these numbers. If all bytes are the tag, some numbers and what ends them, then
 -- those numbers go on from there.
 pub record IsReadingNumbers (tag bytes : List ℕ) (place : ℕ) (numbers : List ℕ) : Type 0 where
   pub within : place ≤ length bytes
-  pub front : take place bytes ≡ tag ++ number_words numbers
+  pub front : take place bytes ≡ tag ++ spaced_numbers numbers
   pub fit : All (λ number. number < 2 ^ 64) numbers
-  pub onward : (whole tail : List ℕ) → All (λ number. number < 2 ^ 64) whole → EndsNumbers tail → bytes ≡ tag ++ (number_words whole ++ tail)
+  pub onward : (whole tail : List ℕ) → All (λ number. number < 2 ^ 64) whole → EndsNumbers tail → bytes ≡ tag ++ (spaced_numbers whole ++ tail)
       → HasLater numbers whole (drop place bytes) tail
 
 -- the numbers from one on stand at the end of the bytes, and there is room for those before it
 pub record ArePut (numbers bytes : List ℕ) (left start : ℕ) : Type 0 where
   pub within : left ≤ length numbers
-  pub room : length (number_words (take left numbers)) ≤ start
+  pub room : length (spaced_numbers (take left numbers)) ≤ start
   pub inside : start ≤ length bytes
-  pub put : drop start bytes ≡ number_words (drop left numbers)
+  pub put : drop start bytes ≡ spaced_numbers (drop left numbers)
 
 -- something was appended, or nothing
 pub record IsLonger (old new : List ℕ) : Type 0 where

@@ -1,4 +1,4 @@
-use Rattle.pm_mapfile.proofs.PrintLemmas.{ArePut}
+use Rattle.pm_lists.specs.steps.Numbers.{ArePut}
 use Rattle.pm_mapfile.proofs.write.put_darts.Given as goal
 
 abbrev pub invariant-darts : goal.invariant-darts
