@@ -13,6 +13,7 @@ pub mod Nesting
 pub mod Own
 mod PairRules
 mod Pairing
+mod Filling
 pub mod PlantedAt
 mod Profiles
 pub mod Ranked

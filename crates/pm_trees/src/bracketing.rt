@@ -23,20 +23,19 @@ fn other_brackets(alloc: Global, word: &[u8]) -> Result<Vec<u32>, AllocError>
     requires small { length word.now < 2 ^ 32 }
     ensures { IfOk result (λ other. IsBracketing (contour word.now) other.items) }
 {
-    let mut other: Vec<u32> = Vec::with_capacity(alloc, word.len() + 1)?;
-    other.push(0)?;
+    let mut other = vec![in alloc; 0u32; word.len() + 1]?;
     let mut open: Vec<u32> = Vec::new(alloc);
     'letters: for (i, letter) in word.iter().enumerate() {
         let place = i as u32 + 1;
         if *letter == CLOSE {
             let opener = open.pop().unwrap();
             other[opener as usize] = place;
-            other.push(opener)?;
+            other[place as usize] = opener;
         } else {
             if *letter == OPEN {
                 open.push(place)?;
             }
-            other.push(place)?;
+            other[place as usize] = place;
         }
     }
     Ok(other)

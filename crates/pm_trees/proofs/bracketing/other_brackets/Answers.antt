@@ -1,28 +1,38 @@
-use Rattle.std.proofs.Common.{arith, ◌+◌}
-use Rattle.pm_trees.proofs.Pairing.{pairing_other, pairing_open, pairing_close, pairing_end, opener_within, opener_is_there}
+use Rattle.std.proofs.Common.{arith, ℕ, ◌+◌, ◌∙◌, ap, refl, length, get_or}
+use Rattle.std.proofs.lemmas.List.{length-replicate, get_or-replicate}
+use Rattle.pm_trees.proofs.Pairing.{opener_is_there}
+use Rattle.pm_trees.proofs.Filling.{filling_start, filling_other, filling_open, filling_opener, filling_close, filling_end}
 use Rattle.pm_trees.proofs.bracketing.other_brackets.Goals as goal
-use Rattle.pm_trees.proofs.bracketing.other_brackets.Goals.{then-letter-eq-CLOSE+in_ok-push-2, else-letter-eq-CLOSE+in_ok-push-4, then-letter-eq-OPEN+in_ok-push-3, else-letter-eq-OPEN}
+use Rattle.pm_trees.proofs.bracketing.other_brackets.Goals.{then-letter-eq-CLOSE, else-letter-eq-CLOSE, then-letter-eq-OPEN+in_ok-push, else-letter-eq-OPEN}
+
+pub letters-init : goal.letters-init
+letters-init c =
+    let zeros = c.in_ok-other.ensures.items_if_clones_equal (λ y e. e) in
+    let none : ℕ = 0 in
+    filling_start _ _ _ (omega (arith, ap length zeros, length-replicate (length c.args.word.now + 1) none)) (ap (λ xs. get_or xs 0 0) zeros ∙ get_or-replicate (length c.args.word.now + 1) 0 none 0 (omega arith)) c.new-open.ensures.items
 
 pub unwrap-opener-requires : goal.unwrap-opener-requires
-unwrap-opener-requires c = c.pop.ensures.variant.1 (let h = opener_is_there _ _ _ _ c.requires.matched c.if-letter-eq-CLOSE.true c.letters.invariant in omega arith)
+unwrap-opener-requires c = c.pop.ensures.variant.1 (let h = opener_is_there _ _ _ _ c.requires.matched c.if-letter-eq-CLOSE.true c.letters.invariant.front in omega arith)
 
 pub index_mut-requires : goal.index_mut-requires
 index_mut-requires c =
-    let h = opener_within _ _ _ _ c.pop.result _ _ c.pop.ensures.items c.unwrap-opener.ensures c.letters.invariant in omega arith
+    let before = filling_opener _ _ _ _ c.pop.result _ _ c.pop.ensures.items c.unwrap-opener.ensures c.letters.invariant in
+    let long = c.letters.invariant.as_long in
+    omega arith
 
 pub letters-preserved : goal.letters-preserved
 letters-preserved c =
     elim c.if-letter-eq-CLOSE.branch [
-      | then-letter-eq-CLOSE+in_ok-push-2 w ↦
-          pairing_close _ c.letters.other.items _ _ _ w.pop.result w.unwrap-opener.result c.letters.i _ (c.letters.i + 1) w.if-letter-eq-CLOSE.true (let e = w.pop.ensures.items in cc) w.unwrap-opener.ensures (let e = w.in_ok-push-2.ensures.items in cc) (omega arith) (omega arith) c.letters.invariant
-      | else-letter-eq-CLOSE+in_ok-push-4 w ↦
+      | then-letter-eq-CLOSE w ↦ rw (w.other-is, w.open-is)
+          (filling_close _ c.letters.other.items _ _ _ _ w.pop.result w.unwrap-opener.result c.letters.i _ (c.letters.i + 1) c.letters-test.true w.if-letter-eq-CLOSE.true (let e = w.pop.ensures.items in cc) w.unwrap-opener.ensures refl refl (omega arith) (omega arith) c.letters.invariant)
+      | else-letter-eq-CLOSE w ↦
           elim w.if-letter-eq-OPEN.branch [
-            | then-letter-eq-OPEN+in_ok-push-3 w' ↦
-                pairing_open _ c.letters.other.items _ c.letters.open.items _ c.letters.i _ (c.letters.i + 1) w'.if-letter-eq-OPEN.true (let e = w.in_ok-push-4.ensures.items in cc) (let e = w'.in_ok-push-3.ensures.items in cc) (omega arith) (omega arith) c.letters.invariant
-            | else-letter-eq-OPEN w' ↦
-                pairing_other _ c.letters.other.items _ c.letters.open.items _ c.letters.i _ (c.letters.i + 1) (record { not_open = w'.if-letter-eq-OPEN.false; not_close = w.if-letter-eq-CLOSE.false }) (let e = w.in_ok-push-4.ensures.items in cc) (cc) (omega arith) (omega arith) c.letters.invariant
+            | then-letter-eq-OPEN+in_ok-push w' ↦ rw (w.other-is, w.open-is, w'.open-is)
+                (filling_open _ c.letters.other.items _ c.letters.open.items _ c.letters.i (c.letters.i + 1) (c.letters.i + 1) c.letters-test.true w'.if-letter-eq-OPEN.true refl (let e = w'.in_ok-push.ensures.items in cc) (omega arith) (omega arith) c.letters.invariant)
+            | else-letter-eq-OPEN w' ↦ rw (w.other-is, w.open-is, w'.open-is)
+                (filling_other _ c.letters.other.items _ c.letters.open.items _ c.letters.i (c.letters.i + 1) (c.letters.i + 1) c.letters-test.true (record { not_open = w'.if-letter-eq-OPEN.false; not_close = w.if-letter-eq-CLOSE.false }) refl refl (omega arith) (omega arith) c.letters.invariant)
           ]
     ]
 
 pub returns : goal.returns
-returns c = pairing_end _ _ _ c.letters.i (omega arith) c.requires.matched c.letters.invariant
+returns c = filling_end _ _ _ c.letters.i (omega arith) c.requires.matched c.letters.invariant
