@@ -13,6 +13,7 @@ use Rattle.pm_close.specs.Closure.{IsClosure, IsClosed}
 use Rattle.pm_map.specs.EdgeNumbers.{dart_of}
 use Rattle.pm_close.specs.Level.{IsLevel, AreLevels}
 use Rattle.pm_close.specs.steps.Levelling.{AreLevelsAt}
+use Rattle.pm_close.specs.steps.Numbered.{IsNumbered}
 use Rattle.pm_close.specs.steps.Twins.{IsTwinList}
 use Rattle.pm_map.specs.EdgeNumbers.{IsTwinning}
 use Rattle.pm_close.proofs.TwinLemmas.{twin_unique, twin_within, twins_apart}
@@ -121,25 +122,41 @@ module _ (places across twins darts sigma : List ℕ) (found : Pairs) (made : Is
         ∙ ap (λ (n : ℕ). slice_index darts (suc (slice_index across p) % n)) count
         ∙ dart_is (suc (slice_index across p) % length places) after
 
+  -- the darts are those of the places in any closure
+  pub made_numbered : (map : RotationSystem) → map ≡ record { sigma = sigma; root = 0 } → 0 < length places → IsNumbered places map darts
+  made_numbered map e some =
+      let closed : IsClosed places map = subst (IsClosed places) (sym e) (made_is_closed some) in
+      record {
+        is_closed = closed;
+        as_long = made.as_many_darts ∙ made.are_twins.as_long;
+        each = λ p l. dart_is p l ∙ same_dart closed.closure closed.is_closure p l;
+      } where
+        same_twin : (closure : Structure) → IsClosure places closure → (p : ℕ) → p < length places → slice_index twins p ≡ closure.twin p
+        same_twin closure closes p l = twin_unique places p (slice_index twins p) (closure.twin p) layout.one (made.are_twins.each p l) (closes.twins p l)
+
+        same_dart : (closure : Structure) → IsClosure places closure → (p : ℕ) → p < length places → dart_of (slice_index twins) p ≡ dart_of closure.twin p
+        same_dart closure closes p l = dart_of-same (slice_index twins) closure.twin (length places) p (same_twin closure closes) l (twin_within places p (slice_index twins p) (made.are_twins.each p l))
+
+module _ (places : List ℕ) (map : RotationSystem) (darts : List ℕ) (numbered : IsNumbered places map darts) where
+  -- each dart is that of one place
+  pub numbered_permutes : IsPermutationList darts
+  numbered_permutes =
+      let perm = numbered.is_closed.carries.renumbers in
+      let count = numbered.is_closed.is_closure.darts in
+      let long = numbered.as_long in
+      record {
+        stays = λ k l. omega (arith, numbered.each k (omega arith), perm.stays k (omega arith));
+        injective = λ j k l m same. perm.injective j k (omega arith) (omega arith) (sym (numbered.each j (omega arith)) ∙ same ∙ numbered.each k (omega arith));
+      }
+
   -- the levels that are written at the darts of the places are those of the closure
-  pub made_levels : (letters levels : List ℕ) (closure : Structure) → IsClosure places closure → places ≡ contour letters → AreLevelsAt letters darts levels → AreLevels places closure levels
-  made_levels letters levels closure closes is written = record {
-    as_long = written.as_long ∙ all_darts;
-    each = λ p l. subst (λ (d : ℕ). IsLevel places p (slice_index levels d)) (dart_is p l ∙ same_dart p l)
-        (subst (λ (xs : List ℕ). IsLevel xs p (slice_index levels (slice_index darts p))) (sym is) (written.each p (omega (arith, all_darts))));
-  } where
-    all_darts : length darts ≡ length places
-    all_darts = made.as_many_darts ∙ made.are_twins.as_long
-
-    same_twin : (p : ℕ) → p < length places → slice_index twins p ≡ closure.twin p
-    same_twin p l = twin_unique places p (slice_index twins p) (closure.twin p) layout.one (made.are_twins.each p l) (closes.twins p l)
-
-    same_dart : (p : ℕ) → p < length places → dart_of (slice_index twins) p ≡ dart_of closure.twin p
-    same_dart p l = dart_of-same (slice_index twins) closure.twin (length places) p same_twin l (twin_within places p (slice_index twins p) (made.are_twins.each p l))
+  numbered_levels : (letters levels : List ℕ) → places ≡ contour letters → AreLevelsAt letters darts levels → AreLevels places numbered.is_closed.closure levels
+  numbered_levels letters levels is written = record {
+    as_long = written.as_long ∙ numbered.as_long;
+    each = λ p l. subst (λ (d : ℕ). IsLevel places p (slice_index levels d)) (numbered.each p l)
+        (subst (λ (xs : List ℕ). IsLevel xs p (slice_index levels (slice_index darts p))) (sym is) (written.each p (let long = numbered.as_long in omega arith)));
+  }
 
   -- so they are what the places close to
-  pub made_closes : (letters levels : List ℕ) (map : RotationSystem) → map ≡ record { sigma = sigma; root = 0 } → IsBalanced places → 0 < length places → places ≡ contour letters
-      → AreLevelsAt letters darts levels → ClosesTo places (record { map = map; levels = levels })
-  made_closes letters levels map e balanced some is written =
-      let closed : IsClosed places map = subst (IsClosed places) (sym e) (made_is_closed some) in
-      record { balanced = balanced; is_closed = closed; levels = made_levels letters levels closed.closure closed.is_closure is written }
+  pub numbered_closes : (letters levels : List ℕ) → IsBalanced places → places ≡ contour letters → AreLevelsAt letters darts levels → ClosesTo places (record { map = map; levels = levels })
+  numbered_closes letters levels balanced is written = record { balanced = balanced; is_closed = numbered.is_closed; levels = numbered_levels letters levels is written }

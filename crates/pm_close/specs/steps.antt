@@ -1,3 +1,4 @@
 pub mod Joining
 pub mod Levelling
 pub mod Twins
+pub mod Numbered

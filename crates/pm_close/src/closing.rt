@@ -3,6 +3,8 @@ ghost use Rattle.pm_trees.specs.Word.{IsBracketing, contour};
 ghost use Rattle.pm_match.specs.Pair.{IsBalanced};
 ghost use Rattle.pm_match.specs.Pairing.{IsPairing};
 ghost use Rattle.pm_close.specs.Closing.{ClosesTo, IsClosing};
+ghost use Rattle.pm_close.specs.Closure.{IsClosed};
+ghost use Rattle.pm_close.specs.steps.Numbered.{IsNumbered};
 ghost use Rattle.pm_close.specs.declared.closing.CloseRefusal.TheVariants.{Memory};
 
 use crate::joining::twins_of;
@@ -51,21 +53,24 @@ pub fn close_tree(alloc: Global, tree: &Tree) -> Result<Closed, CloseRefusal>
     if let Some(bud) = plant_bud(tree) {
         return Err(CloseRefusal::NotBalanced { bud });
     }
-    Ok(close_balanced(alloc, tree)?)
+    let across = brackets(alloc, tree)?;
+    let pairing = matching(alloc, tree)?;
+    Ok(close_paired(alloc, tree, &across, &pairing)?)
 }
 
-/// Closes a tree that is known to be balanced: the plant's bud isn't looked for.
+/// The map of a tree that is known to be balanced: the plant's bud isn't looked for, and no levels are made.
 ///
 /// # Errors
 ///
 /// Only where there is no memory left.
-pub fn close_balanced(alloc: Global, tree: &Tree) -> Result<Closed, AllocError>
+pub fn close_balanced(alloc: Global, tree: &Tree) -> Result<RootedMap, AllocError>
     requires { IsBalanced (contour tree.now) }
-    ensures { IfOk result (ClosesTo (contour tree.now)) }
+    ensures { IfOk result (IsClosed (contour tree.now)) }
 {
     let across = brackets(alloc, tree)?;
     let pairing = matching(alloc, tree)?;
-    close_paired(alloc, tree, &across, &pairing)
+    let numbered = number(alloc, tree, &across, &pairing)?;
+    Ok(numbered.map)
 }
 
 /// Closes a tree that is known to be balanced, whose brackets and pairs are at hand: those that `brackets` and `matching`
@@ -86,12 +91,40 @@ pub fn close_paired(
     ensures { IfOk result (ClosesTo (contour tree.now)) }
 {
     let letters = tree.letters();
+    let numbered = number(alloc, tree, across, pairing)?;
+    let levels = levels_of(alloc, letters, &numbered.darts)?;
+    Ok(Closed {
+        map: numbered.map,
+        levels,
+    })
+}
+
+// The map of a tree, and the dart of each place of the contour.
+#[derive(Drop)]
+struct Numbered {
+    map: RootedMap,
+    darts: Vec<u32>,
+}
+
+// The map of a tree whose brackets and pairs are at hand.
+fn number(
+    alloc: Global,
+    tree: &Tree,
+    across: &[u32],
+    pairing: &Pairing,
+) -> Result<Numbered, AllocError>
+    requires balanced { IsBalanced (contour tree.now) }
+    requires bracketing { IsBracketing (contour tree.now) across.now }
+    requires pairing { IsPairing (contour tree.now) pairing.now }
+    ensures { IfOk result (λ numbered. IsNumbered (contour tree.now) numbered.map numbered.darts.items) }
+{
+    // Its contract says that they are those of a blossoming tree.
+    let _letters = tree.letters();
     let twins = twins_of(alloc, tree, across, pairing)?;
     let darts = darts_of(alloc, &twins)?;
     let sigma = rotation_of(alloc, &darts, across)?;
-    let levels = levels_of(alloc, letters, &darts)?;
-    Ok(Closed {
+    Ok(Numbered {
         map: RootedMap::from_rooted_rotation(sigma, 0),
-        levels,
+        darts,
     })
 }

@@ -43,7 +43,7 @@ fn refuses_a_paired_plant(rt: HostRuntime) -> Result<(), Fail> {
 fn closes_what_is_balanced(rt: HostRuntime) -> Result<(), Fail> {
     let tree = read_tree(rt.alloc(), b"bll")?;
     assert!(rt; pm_match::is_balanced(&tree));
-    let closed = close_balanced(rt.alloc(), &tree)?;
-    assert_eq!(rt; closed.map.sigma(), [2, 0, 3, 1].as_slice());
+    let map = close_balanced(rt.alloc(), &tree)?;
+    assert_eq!(rt; map.sigma(), [2, 0, 3, 1].as_slice());
     Ok(())
 }

@@ -28,7 +28,7 @@ pub(crate) fn closed_anew(alloc: Global, tree: &Tree, free: u64) -> Result<Close
 {
     let anew = plant_anew(alloc, tree, free)?;
     let closed = close_balanced(alloc, &anew.tree)?;
-    let map = canon(alloc, &closed.map)?;
+    let map = canon(alloc, &closed)?;
     Ok(ClosedAnew {
         map,
         old_plant: anew.old_plant,
