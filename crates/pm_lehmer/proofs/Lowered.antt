@@ -10,6 +10,7 @@ use Rattle.pm_lehmer.proofs.CountBelow.{count_below-nil, count_below-smaller, co
 pub lowered : ℕ → List ℕ → List ℕ
 lowered least numbers = map (λ number. number - least) numbers
 
+-- no number is below the least
 abbrev pub AreFrom : ℕ → List ℕ → Type 0
 AreFrom least numbers = (place : ℕ) → place < length numbers → least ≤ get_or numbers place 0
 

@@ -24,7 +24,7 @@ pub fn pattern_count(half: u32) -> u64
     count
 }
 
-/// The product of the two, by the last. A division of 128 bits is slow, and most products fit in 64.
+/// `count * by / over`, rounded down. A division of 128 bits is slow, and most products fit in 64.
 fn scaled(count: u64, by: u32, over: u32) -> u64
     requires some { 0 < over }
     requires fits { count * by / over < 2 ^ 64 }
