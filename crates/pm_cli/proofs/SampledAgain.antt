@@ -1,6 +1,6 @@
 -- Sampling undoes unsampling up to the names of darts.
 use Rattle.std.proofs.Common.{◌≡◌, ℕ, ◌*◌, ◌+◌, ◌≤◌, List, [], ◌∷◌, ◌++◌, length, refl, sym, ap, ◌∙◌, subst, append_assoc, arith}
-use Rattle.std.specs.Prelude.{codes, Option, Some, Result, Ok}
+use Rattle.std.specs.Prelude.{codes, Some, Result, Ok}
 use Rattle.pm_io.specs.declared.TheConstants.{MAX_BYTES}
 use Rattle.pm_limits.specs.declared.TheConstants.{MAX_EDGES}
 use Rattle.pm_text.specs.Broken.{newline}
@@ -9,13 +9,11 @@ use Rattle.pm_map.specs.Rotation.{RotationSystem, IsRootedMap}
 use Rattle.pm_map.specs.Canonical.{IsCanonicalOf}
 use Rattle.pm_map.proofs.UniqueCanonical.{canonical_map_is_unique}
 use Rattle.pm_class.specs.Unsampling.{IsUnsampled}
-use Rattle.pm_mapfile.specs.Answers.{AnswersFile}
 use Rattle.pm_mapfile.specs.MapFile.{lines_text}
 use Rattle.pm_mapfile.specs.MapText.{IsMapText}
 use Rattle.pm_mapfile.proofs.FileLimits.{within_limit}
 use Rattle.pm_mapfile.proofs.TextLengths.{choices_file_few}
 use Rattle.pm_cli.specs.declared.class.Class.{Class}
-use Rattle.pm_cli.specs.declared.class.Class.TheVariants as class
 use Rattle.pm_cli.specs.declared.command.MapTask.TheVariants.{Print}
 use Rattle.pm_cli.specs.declared.command.Image.TheVariants.{Canon}
 use Rattle.pm_cli.specs.declared.refusal.Refusal.{Refusal}
