@@ -1,11 +1,13 @@
 -- The numbers of a cycle as a list: the exchange of two values splits it, or puts two together.
-use Rattle.std.proofs.Common.{◌≡◌, ◌≢◌, ℕ, zero, suc, ◌+◌, ◌-◌, ◌<◌, List, [], ◌∷◌, ◌++◌, length, length-append, slice_index, get_or-append-add, refl, sym, ◌∙◌, ap, arith}
+use Rattle.std.proofs.Common.{◌≡◌, ◌≢◌, ℕ, zero, suc, ◌+◌, ◌-◌, ◌<◌, List, [], ◌∷◌, ◌++◌, length, length-append, slice_index, get_or-append-add, Contains, inl, inr, refl, sym, ◌∙◌, ap, subst, arith}
+use Rattle.std.proofs.lemmas.Bool.{cases_eq}
 use Rattle.std.proofs.lemmas.List.{get_or_append_left}
 use Rattle.std.proofs.lemmas.Option.{get_or_from_slice_get, slice_get_within}
 use Rattle.pm_perm.specs.Permutation.{IsPermutationBelow}
 use Rattle.pm_perm.specs.Cycles.{repeated, IsInCycle}
 use Rattle.pm_perm.specs.Exchange.{IsExchangeBelow}
 use Rattle.pm_perm.specs.CycleList.{IsCycleFrom, ExchangeSplitsCycle, ExchangeJoinsCycles, ExchangeLeavesCycles}
+use Rattle.pm_perm.proofs.Contained.{contains_at, is_at}
 use Rattle.pm_perm.proofs.Repeats.{repeated-inside, repeated-back}
 use Rattle.pm_perm.proofs.SameCycle.{in_cycle-back}
 use Rattle.pm_perm.proofs.Merged.{exchange-back, exchange-permutes}
@@ -18,6 +20,23 @@ cycle-entry f d numbers c (suc k) h = c.goes k h ∙ ap f (cycle-entry f d numbe
 -- so it is in the cycle
 pub cycle-entry_in : (f : ℕ → ℕ) (d : ℕ) (numbers : List ℕ) → IsCycleFrom f d numbers → (k : ℕ) → k < length numbers → IsInCycle f d (slice_index numbers k)
 cycle-entry_in f d numbers c k h = record { steps = k; leads = sym (cycle-entry f d numbers c k h) }
+
+-- and each number of the cycle is an entry
+pub cycle-contains : (f : ℕ → ℕ) (d e : ℕ) (numbers : List ℕ) → IsCycleFrom f d numbers → IsInCycle f d e → Contains numbers e
+cycle-contains f d e numbers c one = subst (λ x. Contains numbers x) one.leads (met f d numbers c one.steps) where
+  first : (f : ℕ → ℕ) (d : ℕ) (numbers : List ℕ) → IsCycleFrom f d numbers → Contains numbers d
+  first f d numbers c = contains_at numbers d 0 (slice_get_within numbers 0 d c.begins) (get_or_from_slice_get numbers 0 d 0 c.begins)
+  met : (f : ℕ → ℕ) (d : ℕ) (numbers : List ℕ) → IsCycleFrom f d numbers → (steps : ℕ) → Contains numbers (repeated f steps d)
+  met f d numbers c zero = first f d numbers c
+  met f d numbers c (suc steps) =
+      let before : Contains numbers (repeated f steps d) = met f d numbers c steps in
+      let here : slice_index numbers before.0 ≡ repeated f steps d = is_at numbers (repeated f steps d) before in
+      elim (cases_eq before.0 (length numbers - 1)) [
+        | inl last ↦ subst (λ x. Contains numbers x) (sym (sym (ap f here) ∙ ap (λ k. f (slice_index numbers k)) last ∙ c.ends)) (first f d numbers c)
+        | inr more ↦
+            let within : suc before.0 < length numbers = omega (arith, before.1, more) in
+            contains_at numbers (repeated f (suc steps) d) (suc before.0) within (c.goes before.0 within ∙ ap f here)
+      ]
 
 -- and entries at two places differ
 pub cycle-apart : (n : ℕ) (f : ℕ → ℕ) (d : ℕ) (numbers : List ℕ) → IsPermutationBelow n f → d < n → IsCycleFrom f d numbers

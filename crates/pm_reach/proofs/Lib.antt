@@ -1,0 +1,3 @@
+mod NearerFaces
+mod OneLayers
+mod ToldFaces

@@ -1,0 +1,12 @@
+//! Laws of layers.
+ghost use Rattle.pm_reach.specs.LayerLaws.{ClosedLevelsAreLayers, MapHasOneLayers};
+
+/// A law: a rooted map has one pair of lists as its layers.
+pub fn map_has_one_layers()
+    ensures { MapHasOneLayers }
+{}
+
+/// A law: in the closure of a balanced tree the distances are the levels that closing gives.
+pub fn closed_levels_are_layers()
+    ensures { ClosedLevelsAreLayers }
+{}
