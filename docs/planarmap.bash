@@ -1,0 +1,14 @@
+# Completion of the words of planarmap for bash: `source docs/planarmap.bash`.
+_planarmap() {
+    local classes='general quartic eulerian bipartite'
+    case $COMP_CWORD in
+    1) mapfile -t COMPREPLY < <(compgen -W 'sample unsample draw trip check canon medial unmedial dual close open' -- "$2") ;;
+    2)
+        case ${COMP_WORDS[1]} in
+        sample | unsample | draw | trip | check) mapfile -t COMPREPLY < <(compgen -W "$classes" -- "$2") ;;
+        close | open) mapfile -t COMPREPLY < <(compgen -W eulerian -- "$2") ;;
+        esac
+        ;;
+    esac
+}
+complete -F _planarmap planarmap ./planarmap
