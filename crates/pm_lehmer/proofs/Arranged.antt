@@ -1,5 +1,5 @@
 -- Codes and the permutations that have them.
-use Rattle.std.proofs.Common.{◌≡◌, ◌≢◌, ℕ, zero, suc, ◌+◌, ◌-◌, ◌<◌, ◌≤◌, List, [], ◌∷◌, ◌++◌, length, get_or, take, refl, ap, sym, ◌∙◌, arith, inl, inr, append_assoc, length-append}
+use Rattle.std.proofs.Common.{◌≡◌, ◌≢◌, ℕ, zero, suc, ◌+◌, ◌-◌, ◌*◌, ◌<◌, ◌≤◌, min, List, [], ◌∷◌, ◌++◌, length, get_or, take, refl, ap, sym, ◌∙◌, arith, inl, inr, append_assoc, length-append}
 use Rattle.std.proofs.Math.ListN.{set}
 use Rattle.std.proofs.lemmas.Bool.{cases_lt, cases_order, lt-ltb, le-ltb, cond-true, cond-false}
 use Rattle.std.proofs.Math.Bool.{cond}
@@ -7,7 +7,9 @@ use Rattle.std.specs.Prelude.{nat_lt}
 use Rattle.std.proofs.lemmas.List.{take_more, take_more_set, append-nil, take_all, get_or_append_left, get_or_push, length-take-le}
 use Rattle.pm_perm.specs.Permutation.{IsPermutationList}
 use Rattle.pm_lehmer.specs.Lehmer.{count_below, code_of, IsArrangementCode, IsArrangementOf}
-use Rattle.pm_lehmer.specs.steps.Counted.{start_of, IsCounted, IsOneMore}
+use Rattle.pm_lehmer.specs.steps.Counted.{IsMore}
+use Rattle.pm_lehmer.specs.steps.Held.{IsHeld, HasRank}
+use Rattle.pm_lehmer.proofs.Held.{IsHeld-same}
 use Rattle.pm_lehmer.proofs.CountBelow.{count_below-nil, count_below-smaller, count_below-other, count_below-le-length, count_below-append, count_below-mono, count_below-stands, count_below-step, HasDifferentEntries}
 
 pub length-code_of : (entries : List ℕ) → length (code_of entries) ≡ length entries
@@ -119,16 +121,20 @@ unused_below-zero entries = omega (arith, unused_below-is entries 0)
 pub record Completes (size : ℕ) (front back : List ℕ) : Type 0 where
   pub counts : (number : ℕ) → number ≤ size → count_below number front + count_below number back ≡ number
 
--- the front of the arrangement that is made, and the counts of the numbers that are left
-pub record IsArrangedUpTo (code counts front : List ℕ) : Type 0 where
-  pub counted : IsCounted counts (unused_below front)
+-- how many numbers below this one and the size are not in the list
+abbrev pub left_below : ℕ → List ℕ → ℕ → ℕ
+left_below size entries number = unused_below entries (min number size)
+
+-- the front of the arrangement that is made, and the numbers that are left
+pub record IsArrangedUpTo (code words counts front : List ℕ) : Type 0 where
+  pub held : IsHeld words counts (left_below (length code) front)
   pub different : HasDifferentEntries front
   pub in_range : (place : ℕ) → place < length front → get_or front place 0 < length code
   pub coded : (back : List ℕ) → Completes (length code) front back → code_of (front ++ back) ≡ take (length front) code ++ code_of back
 
-pub IsArrangedUpTo-none : (code counts front : List ℕ) → front ≡ [] → IsCounted counts (λ number. number) → IsArrangedUpTo code counts front
-IsArrangedUpTo-none code counts front none counted = rw none (record {
-  counted = record { at_middle = λ number positive inside. omega (arith, counted.at_middle number positive inside, unused_below-is [] number, unused_below-is [] (start_of (length counts) number), count_below-nil number, count_below-nil (start_of (length counts) number)) };
+pub IsArrangedUpTo-none : (code words counts front : List ℕ) → front ≡ [] → IsHeld words counts (λ number. min number (length code)) → IsArrangedUpTo code words counts front
+IsArrangedUpTo-none code words counts front none held = rw none (record {
+  held = IsHeld-same words counts (λ number. min number (length code)) (left_below (length code) []) held (λ number. omega (arith, unused_below-is [] (min number (length code)), count_below-nil (min number (length code))));
   different = record { injective = λ first second in_first in_second same. absurd (omega arith) };
   in_range = λ place inside. absurd (omega arith);
   coded = λ back completes. refl;
@@ -180,7 +186,7 @@ in_range-push size front number under less place inside =
       | inr new ↦ omega (arith, get_or_push front number 0 place (omega arith))
     ]
 
-one_more_used : (front : List ℕ) (rank number : ℕ) → HasDifferentEntries front → IsChosen front rank number → HasDifferentEntries (front ++ number ∷ []) → IsOneMore number (unused_below (front ++ number ∷ [])) (unused_below front)
+one_more_used : (front : List ℕ) (rank number : ℕ) → HasDifferentEntries front → IsChosen front rank number → HasDifferentEntries (front ++ number ∷ []) → IsMore number 1 (unused_below (front ++ number ∷ [])) (unused_below front)
 one_more_used front rank number different is_chosen pushed = record {
   same = λ place low. omega (arith, unused_below-is front place, unused_below-is (front ++ number ∷ []) place, count_below-push place number front, count_below-other place number [] low, count_below-nil place);
   raised = λ place high. omega (arith, unused_below-is front place, unused_below-is (front ++ number ∷ []) place, count_below-push place number front, count_below-smaller place number [] high, count_below-nil place, count_below-le place (front ++ number ∷ []) pushed);
@@ -206,29 +212,63 @@ coded-push code front rank number inside less is is_chosen coded back completes 
     ∙ ap (λ t. t ++ code_of back) (sym more)
     ∙ ap (λ n. take n code ++ code_of back) (sym long)
 
--- one number more in the arrangement, by what `take` says
-pub IsArrangedUpTo-more : (code counts after front : List ℕ) (number : ℕ) → IsArrangedUpTo code counts front → length front < length code → number < length code
+one_more_left : (size number : ℕ) (front back : List ℕ) → number < size → IsMore number 1 (unused_below back) (unused_below front) → IsMore number 1 (left_below size back) (left_below size front)
+one_more_left size number front back inside one = record {
+  same = λ place low. one.same (min place size) (omega arith);
+  raised = λ place high. one.raised (min place size) (omega arith);
+}
+
+-- the number is in the range: from the size on nothing is left
+pub left_in_range : (size rank number : ℕ) (front : List ℕ) → left_below size front number ≤ rank → rank < left_below size front (number + 1) → number < size
+left_in_range size rank number front low high = elim (cases_lt number size) [
+  | inl inside ↦ inside
+  | inr past ↦
+      let here : min number size ≡ min (number + 1) size = omega arith in
+      absurd (omega (arith, ap (unused_below front) here))
+]
+
+-- one number more in the arrangement, by what `remove` says
+IsArrangedUpTo-more : (code words counts after_words after_counts front : List ℕ) (number : ℕ) → IsArrangedUpTo code words counts front → length front < length code → number < length code
     → (unused_below front number ≤ get_or code (length front) 0) × (get_or code (length front) 0 < unused_below front (number + 1))
-    → ((fewer : ℕ → ℕ) → IsOneMore number fewer (unused_below front) → IsCounted after fewer)
-    → IsArrangedUpTo code after (front ++ number ∷ [])
-IsArrangedUpTo-more code counts after front number arranged inside less ranked counted =
+    → ((fewer : ℕ → ℕ) → IsMore number 1 fewer (left_below (length code) front) → IsHeld after_words after_counts fewer)
+    → IsArrangedUpTo code after_words after_counts (front ++ number ∷ [])
+IsArrangedUpTo-more code words counts after_words after_counts front number arranged inside less ranked held =
     let is_chosen : IsChosen front (get_or code (length front) 0) number = chosen front (get_or code (length front) 0) number arranged.different ranked.0 ranked.1 in
     let different : HasDifferentEntries (front ++ number ∷ []) = different-push front number arranged.different (absent_in front (get_or code (length front) 0) number is_chosen) in
+    let one = one_more_used front (get_or code (length front) 0) number arranged.different is_chosen different in
     record {
-      counted = counted (unused_below (front ++ number ∷ [])) (one_more_used front (get_or code (length front) 0) number arranged.different is_chosen different);
+      held = held (left_below (length code) (front ++ number ∷ [])) (one_more_left (length code) number front (front ++ number ∷ []) less one);
       different = different;
       in_range = in_range-push (length code) front number arranged.in_range less;
       coded = coded-push code front (get_or code (length front) 0) number inside less refl is_chosen arranged.coded;
     }
 
--- what `take` asks of the rank
-pub rank_below : (code front : List ℕ) → IsArrangementCode code → length front < length code → get_or code (length front) 0 < unused_below front (length code)
+rank_below : (code front : List ℕ) → IsArrangementCode code → length front < length code → get_or code (length front) 0 < unused_below front (length code)
 rank_below code front is_code inside =
     omega (arith, is_code.below (length front) inside, unused_below-is front (length code), count_below-le-length (length code) front)
 
+left_below-zero : (size : ℕ) (front : List ℕ) → left_below size front 0 ≡ 0
+left_below-zero size front =
+    let zero_is : min 0 size ≡ 0 = omega arith in
+    ap (unused_below front) zero_is ∙ unused_below-zero front
+
+-- what `remove` asks of the rank
+pub has_rank : (code words counts arrangement : List ℕ) (place : ℕ) → IsArrangedUpTo code words counts (take place arrangement) → IsArrangementCode code → place < length code → length arrangement ≡ length code → length code ≤ 64 * length words
+    → HasRank words counts (get_or code place 0)
+has_rank code words counts arrangement place arranged is_code inside same_length enough =
+    let front = take place arrangement in
+    let long : length (take place arrangement) ≡ place = length-take-le place arrangement (omega arith) in
+    let whole : min (64 * length words) (length code) ≡ length code = omega arith in
+    record {
+      below = left_below (length code) front;
+      held = arranged.held;
+      none = left_below-zero (length code) front;
+      less = omega (arith, ap (λ n. get_or code n 0) long, ap (unused_below front) whole, rank_below code front is_code (omega (arith, long)));
+    }
+
 -- at the end the arrangement is whole
-pub IsArrangedUpTo-whole : (code counts front : List ℕ) → IsArrangedUpTo code counts front → length front ≡ length code → IsArrangementOf code front
-IsArrangedUpTo-whole code counts front arranged same_length =
+IsArrangedUpTo-whole : (code words counts front : List ℕ) → IsArrangedUpTo code words counts front → length front ≡ length code → IsArrangementOf code front
+IsArrangedUpTo-whole code words counts front arranged same_length =
     let permutation : IsPermutationList front = record { stays = λ place inside. omega (arith, arranged.in_range place inside); injective = arranged.different.injective } in
     let completes : Completes (length code) front [] = record { counts = λ number within. omega (arith, count_below-permutation number front permutation (omega arith), count_below-nil number) } in
     record {
@@ -236,28 +276,40 @@ IsArrangedUpTo-whole code counts front arranged same_length =
       has_code = ap code_of (sym (append-nil front)) ∙ arranged.coded [] completes ∙ append-nil _ ∙ take_all (length front) code (omega arith);
     }
 
+-- the number that `remove` finds is in the range
+pub number_in_range : (code words counts arrangement : List ℕ) (place number : ℕ) → IsArrangedUpTo code words counts (take place arrangement)
+    → ((below : ℕ → ℕ) → IsHeld words counts below → below 0 ≡ 0 → (below number ≤ get_or code place 0) × (get_or code place 0 < below (number + 1)))
+    → number < length code
+number_in_range code words counts arrangement place number arranged ranked =
+    let front = take place arrangement in
+    let found = ranked (left_below (length code) front) arranged.held (left_below-zero (length code) front) in
+    left_in_range (length code) (get_or code place 0) number front found.0 found.1
+
 -- a step of the loop that writes the arrangement
-pub IsArrangedUpTo-step : (code counts after arrangement : List ℕ) (place number : ℕ) → IsArrangedUpTo code counts (take place arrangement)
-    → IsArrangementCode code → place < length code → length arrangement ≡ length code → length counts ≡ length code → number < length counts
-    → ((below : ℕ → ℕ) → IsCounted counts below → below 0 ≡ 0 → get_or code place 0 < below (length counts) → (below number ≤ get_or code place 0) × (get_or code place 0 < below (number + 1)))
-    → ((fewer more : ℕ → ℕ) → IsCounted counts more → IsOneMore number fewer more → IsCounted after fewer)
-    → IsArrangedUpTo code after (take (place + 1) (set arrangement place number))
-IsArrangedUpTo-step code counts after arrangement place number arranged is_code inside same_length counts_length less ranked counted =
+pub IsArrangedUpTo-step : (code words counts after_words after_counts arrangement : List ℕ) (place number : ℕ) → IsArrangedUpTo code words counts (take place arrangement)
+    → place < length code → length arrangement ≡ length code
+    → ((below : ℕ → ℕ) → IsHeld words counts below → below 0 ≡ 0 → (below number ≤ get_or code place 0) × (get_or code place 0 < below (number + 1)))
+    → ((fewer more : ℕ → ℕ) → IsHeld words counts more → IsMore number 1 fewer more → IsHeld after_words after_counts fewer)
+    → IsArrangedUpTo code after_words after_counts (take (place + 1) (set arrangement place number))
+IsArrangedUpTo-step code words counts after_words after_counts arrangement place number arranged inside same_length ranked held =
+    let front = take place arrangement in
     let long : length (take place arrangement) ≡ place = length-take-le place arrangement (omega arith) in
-    let front_inside : length (take place arrangement) < length code = omega arith in
-    let at : get_or code (length (take place arrangement)) 0 ≡ get_or code place 0 = ap (λ n. get_or code n 0) long in
-    let under : get_or code place 0 < unused_below (take place arrangement) (length counts) = omega (arith, at, ap (unused_below (take place arrangement)) counts_length, rank_below code (take place arrangement) is_code front_inside) in
-    let found : (unused_below (take place arrangement) number ≤ get_or code place 0) × (get_or code place 0 < unused_below (take place arrangement) (number + 1)) = ranked (unused_below (take place arrangement)) arranged.counted (unused_below-zero (take place arrangement)) under in
-    let more : IsArrangedUpTo code after (take place arrangement ++ number ∷ []) =
-    IsArrangedUpTo-more code counts after (take place arrangement) number arranged front_inside (omega arith) (omega (arith, at, found.0), omega (arith, at, found.1))
-    (λ fewer one. counted fewer (unused_below (take place arrangement)) arranged.counted one) in
+    let at : get_or code (length front) 0 ≡ get_or code place 0 = ap (λ n. get_or code n 0) long in
+    let less : number < length code = number_in_range code words counts arrangement place number arranged ranked in
+    let found = ranked (left_below (length code) front) arranged.held (left_below-zero (length code) front) in
+    let here : min number (length code) ≡ number = omega arith in
+    let next : min (number + 1) (length code) ≡ number + 1 = omega arith in
+    let more : IsArrangedUpTo code after_words after_counts (take place arrangement ++ number ∷ []) =
+    IsArrangedUpTo-more code words counts after_words after_counts front number arranged (omega (arith, long)) less
+    (omega (arith, at, ap (unused_below front) here, found.0), omega (arith, at, ap (unused_below front) next, found.1))
+    (λ fewer one. held fewer (left_below (length code) front) arranged.held one) in
     let written : take (place + 1) (set arrangement place number) ≡ take place arrangement ++ number ∷ [] = take_more_set arrangement place number (omega arith) in
     rw written more
 
-pub IsArrangedUpTo-all : (code counts arrangement : List ℕ) → IsArrangedUpTo code counts (take (length code) arrangement) → length arrangement ≡ length code → IsArrangementOf code arrangement
-IsArrangedUpTo-all code counts arrangement arranged same_length =
+pub IsArrangedUpTo-all : (code words counts arrangement : List ℕ) → IsArrangedUpTo code words counts (take (length code) arrangement) → length arrangement ≡ length code → IsArrangementOf code arrangement
+IsArrangedUpTo-all code words counts arrangement arranged same_length =
     let all : take (length code) arrangement ≡ arrangement = take_all (length code) arrangement (omega arith) in
-    IsArrangedUpTo-whole code counts arrangement (rw all at arranged) same_length
+    IsArrangedUpTo-whole code words counts arrangement (rw all at arranged) same_length
 
 -- the permutation of a code: the first entry, and then the permutation of the rest with the entries from the first on raised
 raised : ℕ → ℕ → ℕ

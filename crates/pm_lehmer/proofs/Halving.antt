@@ -1,8 +1,13 @@
 -- The tree of counts over the halves of an interval: what a walk down to one number keeps true.
 use Rattle.std.proofs.Common.{◌≡◌, ◌≢◌, ℕ, zero, suc, ◌+◌, ◌-◌, ◌*◌, ◌/◌, ◌<◌, ◌≤◌, ◌⊎◌, List, length, get_or, refl, ap, sym, ◌∙◌, subst, arith, inl, inr, get_or-set_other, get_or-set_same}
+use Rattle.std.specs.Prelude.{◌^◌, Bool, true, false, cond, nat_lt}
+use Rattle.std.specs.Int.{IsPowerOfTwo}
+use Rattle.std.proofs.Math.Nat.{pow-suc}
+use Rattle.std.proofs.lemmas.List.{set-get_or}
+use Rattle.std.proofs.Common.{pow_mono}
 use Rattle.std.proofs.Math.ListN.{set, length-set}
-use Rattle.std.proofs.lemmas.Bool.{lt-ltb, le-ltb, cases_lt, cases_order, cond-true, cond-false}
-use Rattle.pm_lehmer.specs.steps.Counted.{start_from, start_of, IsCounted, IsOneMore}
+use Rattle.std.proofs.lemmas.Bool.{lt-ltb, le-ltb, ltb-true, ltb-false, cases_lt, cases_order, cond-true, cond-false}
+use Rattle.pm_lehmer.specs.steps.Counted.{start_from, start_of, IsCounted, IsMore}
 
 start_from-left : (turns low high number : ℕ) → number < (low + high) / 2 → start_from (suc turns) low high number ≡ start_from turns low ((low + high) / 2) number
 unfolding start_from
@@ -154,7 +159,7 @@ settled-right size counts low high below part wide settled middle aside = record
 }
 
 -- where a number is put in: the way to it has come down to the interval
-pub record IsPutDownTo (before counts : List ℕ) (number low high smaller : ℕ) : Type 0 where
+pub record IsPutDownTo (before counts : List ℕ) (number many low high smaller : ℕ) : Type 0 where
   pub lower : low ≤ number
   pub upper : number < high
   pub ends : high ≤ length before
@@ -163,10 +168,10 @@ pub record IsPutDownTo (before counts : List ℕ) (number low high smaller : ℕ
   pub part : IsPart (length before) low high
   pub sums : (below : ℕ → ℕ) → IsCounted before below → smaller + below 0 ≡ below low
   pub kept : (place : ℕ) → low < place → place < high → get_or counts place 0 ≡ get_or before place 0
-  pub changed : (below more : ℕ → ℕ) → IsCounted before below → IsOneMore number below more → IsSettled (length before) counts low high more
+  pub changed : (below more : ℕ → ℕ) → IsCounted before below → IsMore number many below more → IsSettled (length before) counts low high more
 
-pub IsPutDownTo-whole : (counts : List ℕ) (number : ℕ) → number < length counts → IsPutDownTo counts counts number 0 (length counts) 0
-IsPutDownTo-whole counts number inside = record {
+pub IsPutDownTo-whole : (counts : List ℕ) (number many : ℕ) → number < length counts → IsPutDownTo counts counts number many 0 (length counts) 0
+IsPutDownTo-whole counts number many inside = record {
   lower = omega arith;
   upper = inside;
   ends = omega arith;
@@ -178,9 +183,9 @@ IsPutDownTo-whole counts number inside = record {
   changed = λ below more counted one. record { at_middle = λ place positive inside outside. absurd (elim outside [ inl low_one ↦ omega arith | inr high_one ↦ omega arith ]) };
 }
 
-pub IsPutDownTo-left : (before counts : List ℕ) (number low high smaller : ℕ) → IsPutDownTo before counts number low high smaller → low + 1 < high → number < (low + high) / 2
-    → IsPutDownTo before (set counts ((low + high) / 2) (get_or counts ((low + high) / 2) 0 + 1)) number low ((low + high) / 2) smaller
-IsPutDownTo-left before counts number low high smaller down wide less = record {
+pub IsPutDownTo-left : (before counts : List ℕ) (number many low high smaller : ℕ) → IsPutDownTo before counts number many low high smaller → low + 1 < high → number < (low + high) / 2
+    → IsPutDownTo before (set counts ((low + high) / 2) (get_or counts ((low + high) / 2) 0 + many)) number many low ((low + high) / 2) smaller
+IsPutDownTo-left before counts number many low high smaller down wide less = record {
   lower = down.lower;
   upper = less;
   ends = omega (arith, down.ends);
@@ -192,7 +197,7 @@ IsPutDownTo-left before counts number low high smaller down wide less = record {
   changed = λ below more counted one.
       settled-left (length before) counts _ low high more down.part wide (down.changed below more counted one)
       (λ place other. get_or-set_other counts ((low + high) / 2) place _ 0 other)
-      (let written : get_or (set counts ((low + high) / 2) (get_or counts ((low + high) / 2) 0 + 1)) ((low + high) / 2) 0 ≡ get_or counts ((low + high) / 2) 0 + 1 = get_or-set_same counts ((low + high) / 2) _ 0 (omega (arith, down.same_length, down.ends)) in
+      (let written : get_or (set counts ((low + high) / 2) (get_or counts ((low + high) / 2) 0 + many)) ((low + high) / 2) 0 ≡ get_or counts ((low + high) / 2) 0 + many = get_or-set_same counts ((low + high) / 2) _ 0 (omega (arith, down.same_length, down.ends)) in
       let start : start_of (length before) ((low + high) / 2) ≡ low = start_of-middle (length before) low high down.part wide in
       omega (arith, written, start, ap below start, down.kept ((low + high) / 2) (omega arith) (omega arith), counted.at_middle ((low + high) / 2) (omega arith) (omega (arith, down.ends)), one.same low down.lower, one.raised ((low + high) / 2) less))
       (λ place above under.
@@ -200,10 +205,10 @@ IsPutDownTo-left before counts number low high smaller down wide less = record {
       omega (arith, down.kept place (omega arith) under, counted.at_middle place (omega arith) (omega (arith, down.ends)), one.raised place (omega arith), one.raised (start_of (length before) place) (omega (arith, within.above))));
 }
 
-pub IsPutDownTo-right : (before counts : List ℕ) (number low high smaller : ℕ) → IsPutDownTo before counts number low high smaller → low + 1 < high → (low + high) / 2 ≤ number
+pub IsPutDownTo-right : (before counts : List ℕ) (number many low high smaller : ℕ) → IsPutDownTo before counts number many low high smaller → low + 1 < high → (low + high) / 2 ≤ number
     → get_or counts ((low + high) / 2) 0 < 4294967296
-    → IsPutDownTo before counts number ((low + high) / 2) high (smaller + get_or counts ((low + high) / 2) 0)
-IsPutDownTo-right before counts number low high smaller down wide more fits = record {
+    → IsPutDownTo before counts number many ((low + high) / 2) high (smaller + get_or counts ((low + high) / 2) 0)
+IsPutDownTo-right before counts number many low high smaller down wide more fits = record {
   lower = more;
   upper = down.upper;
   ends = down.ends;
@@ -224,37 +229,61 @@ IsPutDownTo-right before counts number low high smaller down wide more fits = re
 }
 
 -- the end of the way: the interval is the number alone
-pub IsPutDownTo-counted : (before counts : List ℕ) (number low high smaller : ℕ) → IsPutDownTo before counts number low high smaller → high ≤ low + 1
-    → (below more : ℕ → ℕ) → IsCounted before below → IsOneMore number below more → IsCounted counts more
-IsPutDownTo-counted before counts number low high smaller down narrow below more counted one =
+pub IsPutDownTo-counted : (before counts : List ℕ) (number many low high smaller : ℕ) → IsPutDownTo before counts number many low high smaller → high ≤ low + 1
+    → (below more : ℕ → ℕ) → IsCounted before below → IsMore number many below more → IsCounted counts more
+IsPutDownTo-counted before counts number many low high smaller down narrow below more counted one =
     let settled : IsSettled (length before) counts low high more = down.changed below more counted one in
     record {
       at_middle = λ place positive inside.
           rw down.same_length (settled.at_middle place positive (omega (arith, down.same_length)) (elim (cases_lt low place) [ inl above ↦ inr (omega arith) | inr up_to ↦ inl up_to ]));
     }
 
-pub IsPutDownTo-smaller : (before counts : List ℕ) (number low high smaller : ℕ) → IsPutDownTo before counts number low high smaller → high ≤ low + 1
+pub IsPutDownTo-smaller : (before counts : List ℕ) (number many low high smaller : ℕ) → IsPutDownTo before counts number many low high smaller → high ≤ low + 1
     → (below : ℕ → ℕ) → IsCounted before below → smaller + below 0 ≡ below number
-IsPutDownTo-smaller before counts number low high smaller down narrow below counted =
+IsPutDownTo-smaller before counts number many low high smaller down narrow below counted =
     let here : low ≡ number = omega (arith, down.lower, down.upper) in
     down.sums below counted ∙ ap below here
+
+-- a step down: to the first half where the number is below the middle, and else to the second
+pub IsPutDownTo-step : (before counts : List ℕ) (number many low half smaller : ℕ) (first : Bool) → IsPutDownTo before counts number many low (low + 2 * half) smaller → 0 < half
+    → first ≡ nat_lt number (low + half) → get_or counts (low + half) 0 < 4294967296
+    → IsPutDownTo before (set counts (low + half) (get_or counts (low + half) 0 + cond first many 0)) number many (low + half - cond first half 0) (low + half - cond first half 0 + half)
+    (smaller + (get_or counts (low + half) 0 - cond first (get_or counts (low + half) 0) 0))
+IsPutDownTo-step before counts number many low half smaller true down wide is fits =
+    let middle : (low + (low + 2 * half)) / 2 ≡ low + half = omega arith in
+    let less : number < (low + (low + 2 * half)) / 2 = omega (arith, ltb-true number (low + half) (sym is)) in
+    let start : low + half - half ≡ low = omega arith in
+    let sum : smaller + (get_or counts (low + half) 0 - get_or counts (low + half) 0) ≡ smaller = omega arith in
+    let left = IsPutDownTo-left before counts number many low (low + 2 * half) smaller down (omega arith) less in
+    rw (start, sum) (rw middle at left)
+IsPutDownTo-step before counts number many low half smaller false down wide is fits =
+    let middle : (low + (low + 2 * half)) / 2 ≡ low + half = omega arith in
+    let more : (low + (low + 2 * half)) / 2 ≤ number = omega (arith, ltb-false number (low + half) (sym is)) in
+    let start : low + half - 0 ≡ low + half = omega arith in
+    let end : low + half + half ≡ low + 2 * half = omega arith in
+    let same : get_or counts (low + half) 0 + 0 ≡ get_or counts (low + half) 0 = omega arith in
+    let whole : get_or counts (low + half) 0 - 0 ≡ get_or counts (low + half) 0 = omega arith in
+    let right = IsPutDownTo-right before counts number many low (low + 2 * half) smaller down (omega arith) more (rw middle fits) in
+    rw (start, end, same, whole, set-get_or counts (low + half) 0) (rw middle at right)
 
 -- where the number of a rank is taken out: the way to it has come down to the interval
 pub record IsTakenDownTo (before counts : List ℕ) (low high rank left : ℕ) : Type 0 where
   pub filled : low < high
   pub ends : high ≤ length before
   pub same_length : length counts ≡ length before
+  pub small : left ≤ rank
   pub part : IsPart (length before) low high
   pub sums : (below : ℕ → ℕ) → IsCounted before below → below 0 ≡ 0 → left + below low ≡ rank
   pub upper : (below : ℕ → ℕ) → IsCounted before below → below 0 ≡ 0 → rank < below (length before) → rank < below high
   pub kept : (place : ℕ) → low < place → place < high → get_or counts place 0 ≡ get_or before place 0
-  pub changed : (number : ℕ) (fewer more : ℕ → ℕ) → low ≤ number → number < high → IsCounted before more → IsOneMore number fewer more → IsSettled (length before) counts low high fewer
+  pub changed : (number : ℕ) (fewer more : ℕ → ℕ) → low ≤ number → number < high → IsCounted before more → IsMore number 1 fewer more → IsSettled (length before) counts low high fewer
 
 pub IsTakenDownTo-whole : (counts : List ℕ) (rank : ℕ) → 0 < length counts → IsTakenDownTo counts counts 0 (length counts) rank rank
 IsTakenDownTo-whole counts rank filled = record {
   filled = filled;
   ends = omega arith;
   same_length = refl;
+  small = omega arith;
   part = IsPart-whole (length counts);
   sums = λ below counted none. omega arith;
   upper = λ below counted none less. less;
@@ -268,6 +297,7 @@ IsTakenDownTo-left before counts low high rank left down wide less = record {
   filled = omega arith;
   ends = omega (arith, down.ends);
   same_length = length-set counts _ _ ∙ down.same_length;
+  small = down.small;
   part = IsPart-left (length before) low high down.part wide;
   sums = down.sums;
   upper = λ below counted none under.
@@ -291,6 +321,7 @@ IsTakenDownTo-right before counts low high rank left down wide reached = record 
   filled = omega arith;
   ends = down.ends;
   same_length = down.same_length;
+  small = omega (arith, down.small);
   part = IsPart-right (length before) low high down.part wide;
   sums = λ below counted none.
       let start : start_of (length before) ((low + high) / 2) ≡ low = start_of-middle (length before) low high down.part wide in
@@ -307,7 +338,7 @@ IsTakenDownTo-right before counts low high rank left down wide reached = record 
 }
 
 pub IsTakenDownTo-counted : (before counts : List ℕ) (low high rank left : ℕ) → IsTakenDownTo before counts low high rank left → high ≤ low + 1
-    → (fewer more : ℕ → ℕ) → IsCounted before more → IsOneMore low fewer more → IsCounted counts fewer
+    → (fewer more : ℕ → ℕ) → IsCounted before more → IsMore low 1 fewer more → IsCounted counts fewer
 IsTakenDownTo-counted before counts low high rank left down narrow fewer more counted one =
     let settled : IsSettled (length before) counts low high fewer = down.changed low fewer more (omega arith) (omega (arith, down.filled)) counted one in
     record {
@@ -320,3 +351,48 @@ pub IsTakenDownTo-chosen : (before counts : List ℕ) (low high rank left : ℕ)
 IsTakenDownTo-chosen before counts low high rank left down narrow below counted none less =
     let here : high ≡ low + 1 = omega (arith, down.filled) in
     (omega (arith, down.sums below counted none), omega (arith, ap below here, down.upper below counted none less))
+
+-- a step down: to the first half where fewer are left than it has, and else to the second
+pub IsTakenDownTo-step : (before counts : List ℕ) (low half rank left : ℕ) (first : Bool) → IsTakenDownTo before counts low (low + 2 * half) rank left → 0 < half
+    → first ≡ nat_lt left (get_or counts (low + half) 0)
+    → IsTakenDownTo before (set counts (low + half) (get_or counts (low + half) 0 - cond first 1 0)) (low + half - cond first half 0) (low + half - cond first half 0 + half) rank
+    (left + cond first (get_or counts (low + half) 0) 0 - get_or counts (low + half) 0)
+IsTakenDownTo-step before counts low half rank left true down wide is =
+    let middle : (low + (low + 2 * half)) / 2 ≡ low + half = omega arith in
+    let less : left < get_or counts ((low + (low + 2 * half)) / 2) 0 = rw middle (ltb-true left (get_or counts (low + half) 0) (sym is)) in
+    let start : low + half - half ≡ low = omega arith in
+    let same : left + get_or counts (low + half) 0 - get_or counts (low + half) 0 ≡ left = omega arith in
+    let left_half = IsTakenDownTo-left before counts low (low + 2 * half) rank left down (omega arith) less in
+    rw (start, same) (rw middle at left_half)
+IsTakenDownTo-step before counts low half rank left false down wide is =
+    let middle : (low + (low + 2 * half)) / 2 ≡ low + half = omega arith in
+    let reached : get_or counts ((low + (low + 2 * half)) / 2) 0 ≤ left = rw middle (ltb-false left (get_or counts (low + half) 0) (sym is)) in
+    let start : low + half - 0 ≡ low + half = omega arith in
+    let end : low + half + half ≡ low + 2 * half = omega arith in
+    let same : left + 0 ≡ left = omega arith in
+    let whole : get_or counts (low + half) 0 - 0 ≡ get_or counts (low + half) 0 = omega arith in
+    let right_half = IsTakenDownTo-right before counts low (low + 2 * half) rank left down (omega arith) reached in
+    rw (start, end, same, whole, set-get_or counts (low + half) 0) (rw middle at right_half)
+
+-- a power of two above 1 has a half, which is one too
+pub record IsHalved (width : ℕ) : Type 0 where
+  pub whole : width ≡ 2 * (width / 2)
+  pub positive : 0 < width / 2
+  pub power : IsPowerOfTwo (width / 2)
+
+halved_power : (width power : ℕ) → width ≡ 2 ^ power → 1 < width → IsHalved width
+halved_power width zero is wide = absurd (omega (arith, is))
+halved_power width (suc power) is wide = record { whole = omega (arith, is, pow-suc 2 power); positive = omega arith; power = (power, omega (arith, is, pow-suc 2 power)) }
+
+pub halved : (width : ℕ) → IsPowerOfTwo width → 1 < width → IsHalved width
+halved width power wide = halved_power width power.0 power.1 wide
+
+-- the least power of two from a number below 2^32 on
+power_fits : (width power : ℕ) → width ≡ 2 ^ power → width / 2 < 4294967296 → width ≤ 4294967296
+power_fits width power is low = elim (cases_lt 32 power) [
+  | inl high ↦ absurd (omega (arith, pow_mono {i = 33} {j = power} (omega arith)))
+  | inr within ↦ omega (arith, pow_mono {i = power} {j = 32} (omega arith))
+]
+
+pub IsPowerOfTwo-fits : (width : ℕ) → IsPowerOfTwo width → width / 2 < 4294967296 → width ≤ 4294967296
+IsPowerOfTwo-fits width power low = power_fits width power.0 power.1 low

@@ -49,7 +49,7 @@ code_of-lowered least (number ∷ later) from =
     ∙ ap (λ c. count_below number later ∷ c) (code_of-lowered least later (λ place inside. from (suc place) (omega arith)))
 
 -- the code of all of the lowered numbers is that of the numbers
-pub coded_whole : (least : ℕ) (numbers counts code : List ℕ) (place : ℕ) → place ≡ 0 → AreFrom least numbers → IsCodedFrom (lowered least numbers) counts code place → code ≡ code_of numbers
-coded_whole least numbers counts code place first from coded =
+pub coded_whole : (Holds : (ℕ → ℕ) → Type 0) (least : ℕ) (numbers code : List ℕ) (place : ℕ) → place ≡ 0 → AreFrom least numbers → IsCodedFrom Holds (lowered least numbers) code place → code ≡ code_of numbers
+coded_whole Holds least numbers code place first from coded =
     let all = subst (λ (p : ℕ). drop p code ≡ code_of (drop p (lowered least numbers))) first coded.coded in
     all ∙ code_of-lowered least numbers from

@@ -1,5 +1,5 @@
 -- Counts of ranks: the rank of an entry is how many entries are smaller than it.
-use Rattle.std.proofs.Common.{◌≡◌, ℕ, zero, suc, ◌+◌, ◌<◌, ◌≤◌, min, List, [], ◌∷◌, ◌++◌, length, get_or, take, drop, refl, ap, sym, ◌∙◌, arith, inl, inr}
+use Rattle.std.proofs.Common.{◌≡◌, ℕ, zero, suc, ◌+◌, ◌<◌, ◌≤◌, List, [], ◌∷◌, ◌++◌, length, get_or, take, drop, refl, ap, sym, ◌∙◌, arith, inl, inr}
 use Rattle.std.proofs.Math.ListN.{set}
 use Rattle.std.proofs.lemmas.Bool.{cases_lt}
 use Rattle.std.proofs.lemmas.List.{drop_more, drop_all, drop-set, get_or-map, length-drop, length-map, map-append, take_more, take_more_set}
@@ -8,7 +8,7 @@ use Rattle.std.specs.List.{All}
 use Rattle.std.specs.List.Sorted.{IsPermutation}
 use Rattle.std.proofs.lemmas.List.Sorted.{sum_by-IsPermutation}
 use Rattle.pm_lehmer.specs.Lehmer.{count_below, ranks_among, code_of}
-use Rattle.pm_lehmer.specs.steps.Counted.{start_of, IsCounted, IsOneMore}
+use Rattle.pm_lehmer.specs.steps.Counted.{start_of, IsCounted, IsMore}
 use Rattle.pm_lehmer.proofs.CountBelow.{count_below-nil, count_below-smaller, count_below-other, count_below-le-length, count_below-mono, count_below-stands}
 use Rattle.pm_lehmer.proofs.Arranged.{count_below-zero}
 
@@ -123,50 +123,48 @@ ranks_among-more entries ranks place rank written inside same_length is =
 abbrev pub later_below : List ℕ → ℕ → ℕ → ℕ
 later_below numbers place number = count_below number (drop place numbers)
 
--- the code of the numbers from the place on is written, and these numbers are counted
-pub record IsCodedFrom (numbers counts code : List ℕ) (place : ℕ) : Type 0 where
-  pub counted : IsCounted counts (later_below numbers place)
+-- the code of the numbers from the place on is written, and these numbers are held
+pub record IsCodedFrom (Holds : (ℕ → ℕ) → Type 0) (numbers code : List ℕ) (place : ℕ) : Type 0 where
+  pub held : Holds (later_below numbers place)
   pub coded : drop place code ≡ code_of (drop place numbers)
 
-pub IsCodedFrom-none : (numbers counts code : List ℕ) (place : ℕ) → place ≡ length numbers → length code ≡ length numbers → ((place : ℕ) → place < length counts → get_or counts place 0 ≡ 0) → IsCodedFrom numbers counts code place
-IsCodedFrom-none numbers counts code place is same_length zeros =
+pub IsCodedFrom-none : (Holds : (ℕ → ℕ) → Type 0) (numbers code : List ℕ) (place : ℕ) → place ≡ length numbers → length code ≡ length numbers → ((below : ℕ → ℕ) → ((number : ℕ) → below number ≡ 0) → Holds below) → IsCodedFrom Holds numbers code place
+IsCodedFrom-none Holds numbers code place is same_length empty =
     let none : drop place numbers ≡ [] = drop_all place numbers (omega arith) in
     let no_code : drop place code ≡ [] = drop_all place code (omega arith) in
-    let nil : (number : ℕ) → count_below number (drop place numbers) ≡ 0 = λ number. ap (count_below number) none ∙ count_below-nil number in
     record {
-      counted = record { at_middle = λ number positive inside. omega (arith, zeros number inside, nil number, nil (start_of (length counts) number)) };
+      held = empty (later_below numbers place) (λ number. ap (count_below number) none ∙ count_below-nil number);
       coded = no_code ∙ sym (ap code_of none);
     }
 
-pub counts_have_room : (numbers counts code : List ℕ) (place : ℕ) → IsCodedFrom numbers counts code (place + 1) → place < length numbers → length numbers < 4294967296
-    → (number : ℕ) → 0 < number → number < length counts → get_or counts number 0 + 1 < 4294967296
-counts_have_room numbers counts code place coded_from inside few number positive number_inside =
-    omega (arith, coded_from.counted.at_middle number positive number_inside, count_below-le-length number (drop (place + 1) numbers), length-drop (place + 1) numbers)
+pub counted-none : (counts : List ℕ) (below : ℕ → ℕ) → ((place : ℕ) → place < length counts → get_or counts place 0 ≡ 0) → ((number : ℕ) → below number ≡ 0) → IsCounted counts below
+counted-none counts below zeros none = record { at_middle = λ number positive inside. omega (arith, zeros number inside, none number, none (start_of (length counts) number)) }
 
-pub IsCodedFrom-step : (numbers counts after code : List ℕ) (place smaller : ℕ) → IsCodedFrom numbers counts code (place + 1) → place < length numbers → length code ≡ length numbers
-    → ((below : ℕ → ℕ) → IsCounted counts below → smaller + below 0 ≡ below (get_or numbers place 0))
-    → ((below more : ℕ → ℕ) → IsCounted counts below → IsOneMore (get_or numbers place 0) below more → IsCounted after more)
-    → IsCodedFrom numbers after (set code place smaller) place
-IsCodedFrom-step numbers counts after code place smaller coded_from inside same_length sums counted =
+-- no count is greater than how many numbers there are
+pub counts_have_room : (counts : List ℕ) (below : ℕ → ℕ) (many : ℕ) → IsCounted counts below → ((number : ℕ) → below number < many) → many < 4294967296
+    → (number : ℕ) → 0 < number → number < length counts → get_or counts number 0 + 1 < 4294967296
+counts_have_room counts below many counted less few number positive inside = omega (arith, counted.at_middle number positive inside, less number)
+
+pub later_below-less : (numbers : List ℕ) (place number : ℕ) → place < length numbers → later_below numbers (place + 1) number < length numbers
+later_below-less numbers place number inside = omega (arith, count_below-le-length number (drop (place + 1) numbers), length-drop (place + 1) numbers)
+
+pub IsCodedFrom-step : (Before After : (ℕ → ℕ) → Type 0) (numbers code : List ℕ) (place smaller : ℕ) → IsCodedFrom Before numbers code (place + 1) → place < length numbers → length code ≡ length numbers
+    → ((below : ℕ → ℕ) → Before below → smaller + below 0 ≡ below (get_or numbers place 0))
+    → ((below more : ℕ → ℕ) → Before below → IsMore (get_or numbers place 0) 1 below more → After more)
+    → IsCodedFrom After numbers (set code place smaller) place
+IsCodedFrom-step Before After numbers code place smaller coded_from inside same_length sums held =
     let cons : drop place numbers ≡ get_or numbers place 0 ∷ drop (place + 1) numbers = drop_more numbers place 0 inside in
-    let one : IsOneMore (get_or numbers place 0) (later_below numbers (place + 1)) (later_below numbers place) = record {
+    let one : IsMore (get_or numbers place 0) 1 (later_below numbers (place + 1)) (later_below numbers place) = record {
       same = λ number low. ap (count_below number) cons ∙ count_below-other number (get_or numbers place 0) (drop (place + 1) numbers) low;
       raised = λ number high. omega (arith, ap (count_below number) cons, count_below-smaller number (get_or numbers place 0) (drop (place + 1) numbers) high);
     } in
     let smaller_is : smaller ≡ count_below (get_or numbers place 0) (drop (place + 1) numbers) =
-    omega (arith, sums (later_below numbers (place + 1)) coded_from.counted, count_below-zero (drop (place + 1) numbers)) in
+    omega (arith, sums (later_below numbers (place + 1)) coded_from.held, count_below-zero (drop (place + 1) numbers)) in
     record {
-      counted = counted (later_below numbers (place + 1)) (later_below numbers place) coded_from.counted one;
+      held = held (later_below numbers (place + 1)) (later_below numbers place) coded_from.held one;
       coded = drop-set code place smaller (omega arith) ∙ ap (λ n. n ∷ drop (place + 1) code) smaller_is
           ∙ ap (λ c. count_below (get_or numbers place 0) (drop (place + 1) numbers) ∷ c) coded_from.coded ∙ sym (ap code_of cons);
     }
-
--- the first numbers are counted
-abbrev pub first_below : ℕ → ℕ → ℕ
-first_below size number = min number size
-
-pub first_below-more : (size : ℕ) → IsOneMore size (first_below size) (first_below (size + 1))
-first_below-more size = record { same = λ place low. omega arith; raised = λ place high. omega arith }
 
 -- another order counts alike
 pub count_below-IsPermutation : (number : ℕ) (first second : List ℕ) → IsPermutation first second → count_below number second ≡ count_below number first

@@ -1,9 +1,10 @@
 //! From a code to the permutation that has it.
-ghost use Rattle.std.specs.Prelude.{◌≡◌, ℕ, ◌^◌, ◌<◌, length, slice_index, EachIndex, IfOk};
+ghost use Rattle.std.specs.Prelude.{◌≡◌, ◌*◌, ◌^◌, ◌<◌, ◌≤◌, min, length, IfOk};
+ghost use Rattle.std.specs.Int.{IsPowerOfTwo};
 ghost use Rattle.pm_lehmer.specs.Lehmer.{IsArrangementCode, IsArrangementOf, IsOnlyArrangementOf};
-ghost use Rattle.pm_lehmer.specs.steps.Counted.{IsCounted};
+ghost use Rattle.pm_lehmer.specs.steps.Held.{IsHeld};
 
-use crate::counts::{put, take};
+use crate::sets::{fill, remove, words_for};
 use std::alloc::{AllocError, Global};
 
 /// The one permutation of the numbers from 0 on that has this code. There are fewer than 2^32 entries, and each is
@@ -20,36 +21,30 @@ pub fn arrange(alloc: Global, code: &[u64]) -> Result<Vec<u32>, AllocError>
     ensures only { IfOk result (λ v. IsOnlyArrangementOf code.now v.items) }
     ensures length { IfOk result (λ v. length v.items ≡ length code.now) }
 {
-    let mut counts = vec![in alloc; 0u32; code.len()]?;
+    let many_words = words_for(code.len());
+    let mut words = vec![in alloc; 0u64; many_words]?;
+    let mut counts = vec![in alloc; 0u32; many_words]?;
     let mut arrangement = vec![in alloc; 0u32; code.len()]?;
-    put_all(&mut counts);
-    take_each(code, &mut counts, &mut arrangement);
+    fill(&mut words, &mut counts, code.len());
+    take_each(code, &mut words, &mut counts, &mut arrangement);
     Ok(arrangement)
 }
 
-// Puts in each number below the size.
-fn put_all(counts: &mut [u32])
-    requires few { length counts.old < 2 ^ 32 }
-    requires none_counted { EachIndex counts.old (λ place. slice_index counts.old place ≡ 0) }
-    ensures { IsCounted counts.new (λ number. number) }
-{
-    'numbers: for number in 0..counts.len() {
-        put(counts, number);
-    }
-}
-
 // Writes at each place the number that has as many smaller ones left as the code says there.
-fn take_each(code: &[u64], counts: &mut [u32], arrangement: &mut [u32])
+fn take_each(code: &[u64], words: &mut [u64], counts: &mut [u32], arrangement: &mut [u32])
     requires few { length code.now < 2 ^ 32 }
     requires is_code { IsArrangementCode code.now }
-    requires counts_length { length counts.old ≡ length code.now }
+    requires as_long { length words.old ≡ length counts.old }
+    requires power { IsPowerOfTwo (length counts.old) }
+    requires few_words { length counts.old ≤ 2 ^ 32 }
+    requires enough { length code.now ≤ 64 * length words.old }
     requires arrangement_length { length arrangement.old ≡ length code.now }
-    requires all_counted { IsCounted counts.old (λ number. number) }
+    requires all_held { IsHeld words.old counts.old (λ number. min number (length code.now)) }
 
     ensures arranged { IsArrangementOf code.now arrangement.new }
     ensures only { IsOnlyArrangementOf code.now arrangement.new }
 {
     'places: for (place, rank) in code.iter().enumerate() {
-        arrangement[place] = take(counts, *rank) as u32;
+        arrangement[place] = remove(words, counts, *rank as usize) as u32;
     }
 }

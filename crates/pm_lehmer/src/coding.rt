@@ -1,10 +1,12 @@
 //! From a list to its code.
-ghost use Rattle.std.specs.Prelude.{◌≡◌, ◌↔◌, ℕ, ◌+◌, ◌^◌, ◌<◌, ◌≤◌, length, slice_index, EachIndex, IfOk, IsTrue};
+ghost use Rattle.std.specs.Prelude.{◌≡◌, ◌↔◌, ℕ, ◌+◌, ◌*◌, ◌^◌, ◌<◌, ◌≤◌, length, slice_index, EachIndex, IfOk, IsTrue};
+ghost use Rattle.std.specs.Int.{IsPowerOfTwo};
 ghost use Rattle.std.specs.List.{All};
 ghost use Rattle.std.specs.List.Sorted.{IsNonDecreasing};
 ghost use Rattle.pm_lehmer.specs.Lehmer.{count_below, ranks_among, code_of, IsArrangementCode};
 
-use crate::counts::put;
+use crate::counts::{list_length, put};
+use crate::sets::{insert, words_for};
 use std::alloc::{AllocError, Global};
 
 /// The code of the entries: entry k counts the later entries that are smaller than entry k. There are fewer than
@@ -95,10 +97,66 @@ fn code_from(alloc: Global, numbers: &[u32], least: u32) -> Result<Vec<u64>, All
     ensures is_code { IfOk result (λ v. IsArrangementCode v.items) }
     ensures length { IfOk result (λ v. length v.items ≡ length numbers.now) }
 {
-    let mut counts = vec![in alloc; 0u32; numbers.len()]?;
     let mut code = vec![in alloc; 0u64; numbers.len()]?;
+    if is_written_by_set(alloc, numbers, least, &mut code)? {
+        return Ok(code);
+    }
+    let mut counts = vec![in alloc; 0u32; list_length(numbers.len())]?;
     count_later(numbers, least, &mut counts, &mut code);
     Ok(code)
+}
+
+// Writes the code where no two of the numbers are the same, and says whether that is so.
+fn is_written_by_set(
+    alloc: Global,
+    numbers: &[u32],
+    least: u32,
+    code: &mut [u64],
+) -> Result<bool, AllocError>
+    requires few { length numbers.now < 2 ^ 32 }
+    requires least { EachIndex numbers.now (λ place. least ≤ slice_index numbers.now place) }
+    requires near { All (λ number. number < least + length numbers.now) numbers.now }
+    requires code_length { length code.old ≡ length numbers.now }
+
+    ensures code { IfOk result (λ different. IsTrue different → code.new ≡ code_of numbers.now) }
+    ensures is_code { IfOk result (λ different. IsTrue different → IsArrangementCode code.new) }
+{
+    let many_words = words_for(numbers.len());
+    let mut words = vec![in alloc; 0u64; many_words]?;
+    let mut counts = vec![in alloc; 0u32; many_words]?;
+    Ok(count_different(numbers, least, &mut words, &mut counts, code))
+}
+
+// Writes the code from its last entry on, each time with the later numbers in the set, and stops at a number that is
+// there already.
+fn count_different(
+    numbers: &[u32],
+    least: u32,
+    words: &mut [u64],
+    counts: &mut [u32],
+    code: &mut [u64],
+) -> bool
+    requires few { length numbers.now < 2 ^ 32 }
+    requires least { EachIndex numbers.now (λ place. least ≤ slice_index numbers.now place) }
+    requires near { All (λ number. number < least + length numbers.now) numbers.now }
+    requires as_long { length words.old ≡ length counts.old }
+    requires power { IsPowerOfTwo (length counts.old) }
+    requires few_words { length counts.old ≤ 2 ^ 32 }
+    requires enough { length numbers.now ≤ 64 * length words.old }
+    requires code_length { length code.old ≡ length numbers.now }
+    requires no_bits { EachIndex words.old (λ place. slice_index words.old place ≡ 0) }
+    requires none_counted { EachIndex counts.old (λ place. slice_index counts.old place ≡ 0) }
+
+    ensures code { IsTrue result → code.new ≡ code_of numbers.now }
+    ensures is_code { IsTrue result → IsArrangementCode code.new }
+{
+    'different: for place in (0..numbers.len()).rev() {
+        let Some(smaller) = insert(words, counts, (numbers[place] - least) as usize) else {
+            return false;
+        };
+        code[place] = smaller as u64;
+    }
+    true
 }
 
 // Writes the code from its last entry on, each time with the later numbers counted.
@@ -106,7 +164,9 @@ fn count_later(numbers: &[u32], least: u32, counts: &mut [u32], code: &mut [u64]
     requires few { length numbers.now < 2 ^ 32 }
     requires least { EachIndex numbers.now (λ place. least ≤ slice_index numbers.now place) }
     requires near { All (λ number. number < least + length numbers.now) numbers.now }
-    requires counts_length { length counts.old ≡ length numbers.now }
+    requires power { IsPowerOfTwo (length counts.old) }
+    requires enough { length numbers.now ≤ length counts.old }
+    requires few_counts { length counts.old ≤ 2 ^ 32 }
     requires code_length { length code.old ≡ length numbers.now }
     requires none_counted { EachIndex counts.old (λ place. slice_index counts.old place ≡ 0) }
 
@@ -114,6 +174,6 @@ fn count_later(numbers: &[u32], least: u32, counts: &mut [u32], code: &mut [u64]
     ensures is_code { IsArrangementCode code.new }
 {
     'from_last: for place in (0..numbers.len()).rev() {
-        code[place] = put(counts, (numbers[place] - least) as usize);
+        code[place] = put(counts, (numbers[place] - least) as usize, 1) as u64;
     }
 }

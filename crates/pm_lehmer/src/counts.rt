@@ -1,55 +1,77 @@
-//! How many of a set of numbers stand below a number, in a tree of counts that is kept in one list. The tree is
-//! over the halves of the interval from 0 to the length of the list: the count at a middle is of the numbers in
-//! the first half of its interval.
-ghost use Rattle.std.specs.Prelude.{◌≡◌, ℕ, ◌+◌, ◌^◌, ◌<◌, ◌≤◌, length, slice_index};
-ghost use Rattle.pm_lehmer.specs.steps.Counted.{IsCounted, IsOneMore};
+//! How many of a collection of numbers stand below a number, in a tree of counts that is kept in one list. The tree is
+//! over the halves of the interval from 0 to the length of the list, a power of two: the count at a middle is of the
+//! numbers in the first half of its interval. A way down the tree has a step for each level, and no step branches: which
+//! half it takes is told by what a difference borrows.
+ghost use Rattle.std.specs.Prelude.{◌≡◌, ℕ, ◌+◌, ◌^◌, ◌<◌, ◌≤◌, length, slice_index, cond, nat_lt};
+ghost use Rattle.std.specs.Int.{IsPowerOfTwo};
+ghost use Rattle.pm_lehmer.specs.steps.Counted.{IsCounted, IsMore};
 
-/// Puts a number in, and says how many smaller ones there were.
-pub(crate) fn put(counts: &mut [u32], number: usize) -> u64
+/// The length of the list for so many numbers.
+pub(crate) fn list_length(numbers: usize) -> usize
+    requires { numbers < 2 ^ 32 }
+    ensures power { IsPowerOfTwo result }
+    ensures enough { numbers ≤ result }
+    ensures few { result ≤ 2 ^ 32 }
+{
+    numbers.next_power_of_two()
+}
+
+/// Puts a number in so many times, and says how many smaller ones there were.
+pub(crate) fn put(counts: &mut [u32], number: usize, many: u32) -> usize
+    requires power { IsPowerOfTwo (length counts.old) }
     requires inside { number < length counts.old }
-    requires few { length counts.old < 2 ^ 32 }
-    requires room { (place : ℕ) → 0 < place → place < length counts.old → slice_index counts.old place + 1 < 2 ^ 32 }
+    requires few { length counts.old ≤ 2 ^ 32 }
+    requires room { (place : ℕ) → 0 < place → place < length counts.old → slice_index counts.old place + many < 2 ^ 32 }
 
     ensures smaller { (below : ℕ → ℕ) → IsCounted counts.old below → result + below 0 ≡ below number }
-    ensures counted { (below more : ℕ → ℕ) → IsCounted counts.old below → IsOneMore number below more → IsCounted counts.new more }
+    ensures bounded { result + 2 ^ 32 ≤ 2 ^ 64 }
+    ensures counted { (below more : ℕ → ℕ) → IsCounted counts.old below → IsMore number many below more → IsCounted counts.new more }
 {
     let mut low = 0;
-    let mut high = counts.len();
+    let mut width = counts.len();
     let mut smaller = 0;
-    'halving: while high - low > 1 {
-        let middle = (low + high) / 2;
-        if number < middle {
-            counts[middle] += 1;
-            high = middle;
-        } else {
-            smaller += u64::from(counts[middle]);
-            low = middle;
-        }
+    'halving: while width > 1 {
+        width /= 2;
+        let middle = low + width;
+        let first_half = counts[middle] as usize;
+        smaller += first_half - if_less(number, middle, first_half);
+        counts[middle] += if_less(number, middle, many as usize) as u32;
+        low = middle - if_less(number, middle, width);
     }
     smaller
 }
 
-/// Takes the number out that has `rank` smaller ones beside it, and gives it.
-pub(crate) fn take(counts: &mut [u32], rank: u64) -> usize
-    requires { 0 < length counts.old }
+/// Takes the number out that has `rank` smaller ones before it, and gives it, and how many of its own are before it.
+pub(crate) fn take(counts: &mut [u32], rank: usize) -> (usize, usize)
+    requires power { IsPowerOfTwo (length counts.old) }
+    requires few { length counts.old ≤ 2 ^ 32 }
+    requires low { rank < 2 ^ 32 }
 
-    ensures inside { result < length counts.old }
-    ensures ranked { (below : ℕ → ℕ) → IsCounted counts.old below → below 0 ≡ 0 → rank < below (length counts.old) → (below result ≤ rank) × (rank < below (result + 1)) }
-    ensures counted { (fewer more : ℕ → ℕ) → IsCounted counts.old more → IsOneMore result fewer more → IsCounted counts.new fewer }
+    ensures inside { result.0 < length counts.old }
+    ensures ranked { (below : ℕ → ℕ) → IsCounted counts.old below → below 0 ≡ 0 → result.1 + below result.0 ≡ rank }
+    ensures less { (below : ℕ → ℕ) → IsCounted counts.old below → below 0 ≡ 0 → rank < below (length counts.old) → rank < below (result.0 + 1) }
+    ensures counted { (fewer more : ℕ → ℕ) → IsCounted counts.old more → IsMore result.0 1 fewer more → IsCounted counts.new fewer }
 {
     let mut low = 0;
-    let mut high = counts.len();
+    let mut width = counts.len();
     let mut left = rank;
-    'halving: while high - low > 1 {
-        let middle = (low + high) / 2;
-        let first_half = u64::from(counts[middle]);
-        if left < first_half {
-            counts[middle] -= 1;
-            high = middle;
-        } else {
-            left -= first_half;
-            low = middle;
-        }
+    'halving: while width > 1 {
+        width /= 2;
+        let middle = low + width;
+        let first_half = counts[middle] as usize;
+        counts[middle] -= if_less(left, first_half, 1) as u32;
+        low = middle - if_less(left, first_half, width);
+        left = left + if_less(left, first_half, first_half) - first_half;
     }
-    low
+    (low, left)
+}
+
+// The value where the number is less than the bound, and else 0: their difference borrows 1 or 0.
+fn if_less(number: usize, bound: usize, value: usize) -> usize
+    requires low { number < 2 ^ 63 }
+    requires bounded { bound < 2 ^ 63 }
+    ensures value { result ≡ cond (nat_lt number bound) value 0 }
+    ensures at_most { result ≤ value }
+{
+    value * (number.wrapping_sub(bound) >> 63)
 }

@@ -1,11 +1,13 @@
 //! The arrangement code (Lehmer code) of a list of numbers, and the permutation of a code. Both take n·log n steps
-//! for n entries, by a tree of counts.
+//! for n entries, by a set of numbers in words of bits with a tree of counts over the words.
 #![tactic(auto)]
 
 mod arranging;
+mod bits;
 mod coding;
 mod counts;
 mod laws;
+mod sets;
 
 pub use arranging::arrange;
 pub use coding::code;

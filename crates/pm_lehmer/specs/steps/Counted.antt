@@ -18,7 +18,7 @@ start_of size number = start_from size 0 size number
 pub record IsCounted (counts : List ℕ) (below : ℕ → ℕ) : Type 0 where
   pub at_middle : (number : ℕ) → 0 < number → number < length counts → slice_index counts number + below (start_of (length counts) number) ≡ below number
 
--- the second count is that of one number more
-pub record IsOneMore (number : ℕ) (fewer more : ℕ → ℕ) : Type 0 where
+-- the second count is that of so many more of one number
+pub record IsMore (number many : ℕ) (fewer more : ℕ → ℕ) : Type 0 where
   pub same : (place : ℕ) → place ≤ number → more place ≡ fewer place
-  pub raised : (place : ℕ) → number < place → more place ≡ fewer place + 1
+  pub raised : (place : ℕ) → number < place → more place ≡ fewer place + many
