@@ -1,10 +1,12 @@
 -- The ones of a word, and what a word that has one more or one fewer has below each bit.
 use Rattle.std.proofs.Common.{◌≡◌, ◌≢◌, ℕ, zero, suc, ◌+◌, ◌-◌, ◌*◌, ◌/◌, ◌%◌, ◌^◌, ◌<◌, ◌≤◌, min, count_ones, bit_and, bit_or, refl, ap, sym, ◌∙◌, arith, inl, inr}
-use Rattle.std.specs.Int.{bit_at, w64, trailing_zeros}
+use Rattle.std.specs.Int.{bit_at, w64}
 use Rattle.std.specs.Int.Count.{ones_step}
-use Rattle.std.proofs.lemmas.Bool.{cases_lt, cases_eq}
-use Rattle.std.proofs.lemmas.Nat.{and_block, mod-pow-add, mod_below, ones_cat, ones_le_self, one_shl, pow_pos}
-use Rattle.std.proofs.lemmas.Nat.Bits.{bit_at_lowest, bit_at-suc, bit_at-zero, bit_at-lt, bit_at_and, bit_at_ones, bit_at_ones_above, bit_at_set_same, bit_at_set_other, bit_at_clear_same, bit_at_clear_other, bit_at-trailing_zeros, same_from_bits}
+use Rattle.std.proofs.lemmas.Bool.{ltb-true, ltb-false, cases_lt, cases_eq}
+use Rattle.std.proofs.lemmas.Nat.{mod-pow-add, mod_below, ones_cat, ones_le_self, one_shl, pow_pos}
+use Rattle.std.proofs.lemmas.Nat.Bits.{bit_at-zero, bit_at-lt, bit_at_ones, bit_at_ones_above, bit_at_set_same, bit_at_set_other, bit_at_clear_same, bit_at_clear_other}
+use Rattle.std.specs.Prelude.{Bool, true, false, cond, nat_lt}
+use Rattle.std.specs.Int.{IsPowerOfTwo}
 use Rattle.pm_lehmer.specs.steps.Held.{ones_below, IsBitOfRank}
 
 ones_below-is : (word bit : ℕ) → ones_below word bit ≡ count_ones (word % 2 ^ bit)
@@ -40,49 +42,14 @@ ones_below-whole word fits =
     let same : word % 18446744073709551616 ≡ word = omega arith in
     ones_below-is word 64 ∙ ap count_ones same
 
--- the lowest bit, and the ones of the others
-ones_below-half : (word bit : ℕ) → ones_below word (suc bit) ≡ word % 2 + ones_below (word / 2) bit
-ones_below-half word zero = omega (arith, ones_below-next word 0, ones_below-none word, ones_below-none (word / 2), bit_at_lowest word)
-ones_below-half word (suc bit) = omega (arith, ones_below-next word (suc bit), ones_below-half word bit, bit_at-suc word bit, ones_below-next (word / 2) bit)
-
-and_self : (word : ℕ) → bit_and word word ≡ word
-and_self word = same_from_bits (bit_and word word) word (λ bit. omega (arith, bit_at_and word word bit))
-
--- a word and the one before it share their bits above the lowest
-and_before-even : (word : ℕ) → 0 < word → word % 2 ≡ 0 → bit_and word (word - 1) ≡ bit_and (word / 2) (word / 2 - 1) * 2
-and_before-even word some even =
-    let here : word ≡ word / 2 * 2 + 0 = omega arith in
-    let before : word - 1 ≡ (word / 2 - 1) * 2 + 1 = omega arith in
-    let block : bit_and (word / 2 * 2 + 0) ((word / 2 - 1) * 2 + 1) ≡ bit_and (word / 2) (word / 2 - 1) * 2 + 0 = and_block 1 (word / 2) (word / 2 - 1) 0 1 (omega arith) (omega arith) in
-    omega (arith, ap (λ (w : ℕ). bit_and w (word - 1)) here, ap (bit_and (word / 2 * 2 + 0)) before, block)
-
-and_before-odd : (word : ℕ) → word % 2 ≡ 1 → bit_and word (word - 1) ≡ word / 2 * 2
-and_before-odd word odd =
-    let here : word ≡ word / 2 * 2 + 1 = omega arith in
-    let before : word - 1 ≡ word / 2 * 2 + 0 = omega arith in
-    let block : bit_and (word / 2 * 2 + 1) (word / 2 * 2 + 0) ≡ bit_and (word / 2) (word / 2) * 2 + 0 = and_block 1 (word / 2) (word / 2) 1 0 (omega arith) (omega arith) in
-    omega (arith, ap (λ (w : ℕ). bit_and w (word - 1)) here, ap (bit_and (word / 2 * 2 + 1)) before, block, and_self (word / 2))
-
--- without its lowest one, a word has below each bit one fewer, if any
-ones_below-lowest : (word bit : ℕ) → 0 < word → ones_below (bit_and word (word - 1)) bit ≡ ones_below word bit - 1
-ones_below-lowest word zero some = omega (arith, ones_below-none (bit_and word (word - 1)), ones_below-none word)
-ones_below-lowest word (suc bit) some = elim (cases_eq (word % 2) 0) [
-  | inl even ↦
-      let rest : bit_and word (word - 1) / 2 ≡ bit_and (word / 2) (word / 2 - 1) = omega (arith, and_before-even word some even) in
-      omega (
-        arith,
-        even,
-        and_before-even word some even,
-        ap (λ (w : ℕ). ones_below w bit) rest,
-        ones_below-half (bit_and word (word - 1)) bit,
-        ones_below-half word bit,
-        ones_below-lowest (word / 2) bit (omega (arith, even)),
-      )
-  | inr other ↦
-      let odd : word % 2 ≡ 1 = omega (arith, other) in
-      let rest : bit_and word (word - 1) / 2 ≡ word / 2 = omega (arith, and_before-odd word odd) in
-      omega (arith, odd, and_before-odd word odd, ap (λ (w : ℕ). ones_below w bit) rest, ones_below-half (bit_and word (word - 1)) bit, ones_below-half word bit)
-]
+-- the ones below a bit, and those from there on
+ones_below-add : (word low width : ℕ) → ones_below word (low + width) ≡ ones_below word low + ones_below (word / 2 ^ low) width
+ones_below-add word low width =
+    let turned : width + low ≡ low + width = omega arith in
+    let under : word % 2 ^ low < 2 ^ low = mod_below word (2 ^ low) (pow_pos low) in
+    let parts : word % 2 ^ (low + width) ≡ (word / 2 ^ low % 2 ^ width) * 2 ^ low + word % 2 ^ low = ap (λ (b : ℕ). word % 2 ^ b) (sym turned) ∙ mod-pow-add word width low in
+    let count = ones_below-is word (low + width) ∙ ap count_ones parts ∙ ones_cat low (word / 2 ^ low % 2 ^ width) (word % 2 ^ low) under in
+    omega (arith, count, ones_below-is word low, ones_below-is (word / 2 ^ low) width)
 
 -- no bit is one, so none is counted
 ones_below-zeros : (word bit : ℕ) → ((other : ℕ) → other < bit → bit_at word other ≡ 0) → ones_below word bit ≡ 0
@@ -126,42 +93,51 @@ set_bit word bit inside unset = record { unset = unset; one = bit_at_set_same w6
 pub clear_bit : (word bit : ℕ) → bit < 64 → bit_at word bit ≡ 1 → IsBitMore bit (bit_and word (18446744073709551615 - 1 * 2 ^ bit % 18446744073709551616)) word
 clear_bit word bit inside one = record { unset = bit_at_clear_same w64 word bit inside; one = one; others = λ other within apart. sym (bit_at_clear_other w64 word bit inside other within apart) }
 
--- the rest of the word without so many of its lowest ones
-pub record IsWithoutLowest (word left many : ℕ) : Type 0 where
-  pub rest : (bit : ℕ) → ones_below left bit ≡ ones_below word bit - many
-
-pub IsWithoutLowest-none : (word : ℕ) → IsWithoutLowest word word 0
-IsWithoutLowest-none word = record { rest = λ bit. omega arith }
-
--- there is a one left
-pub IsWithoutLowest-some : (word left many : ℕ) → IsWithoutLowest word left many → word < 18446744073709551616 → many < count_ones word → 0 < left
-IsWithoutLowest-some word left many without fits less = elim (cases_lt 0 left) [
-  | inl some ↦ some
-  | inr none ↦
-      let nothing : left ≡ 0 = omega arith in
-      let no_bits : ones_below left 64 ≡ 0 = ap (λ w. ones_below w 64) nothing ∙ ones_below-whole 0 (omega arith) ∙ no_ones in
-      absurd (omega (arith, no_bits, without.rest 64, ones_below-whole word fits))
-]
-
-pub IsWithoutLowest-more : (word left many : ℕ) → IsWithoutLowest word left many → 0 < left → IsWithoutLowest word (bit_and left (left - 1)) (many + 1)
-IsWithoutLowest-more word left many without some = record { rest = λ bit. omega (arith, ones_below-lowest left bit some, without.rest bit) }
-
--- the lowest one that is left is the one of that rank
-pub IsWithoutLowest-rank : (word left rank : ℕ) → IsWithoutLowest word left rank → word < 18446744073709551616 → left < 18446744073709551616 → rank < count_ones word → IsBitOfRank word rank (trailing_zeros w64 left)
-IsWithoutLowest-rank word left rank without fits left_fits less =
-    let some = IsWithoutLowest-some word left rank without fits less in
-    let lowest = bit_at-trailing_zeros w64 left some left_fits in
-    let bit = trailing_zeros w64 left in
-    let none_below : ones_below left bit ≡ 0 = ones_below-zeros left bit lowest.2 in
-    let here = ones_below-next left bit in
-    let there = ones_below-next word bit in
-    let digit = bit_at-lt word bit in
-    record {
-      inside = lowest.0;
-      one = omega (arith, none_below, here, there, digit, lowest.1, without.rest bit, without.rest (suc bit));
-      ranked = omega (arith, none_below, here, there, digit, lowest.1, without.rest bit, without.rest (suc bit));
-    }
-
 -- the code's mask is a power of two
 pub ones_below-masked : (word bit : ℕ) → bit < 64 → count_ones (word % (1 * 2 ^ bit % 18446744073709551616)) ≡ ones_below word bit
 ones_below-masked word bit inside = ap (λ (m : ℕ). count_ones (word % m)) (one_shl bit 64 inside) ∙ sym (ones_below-is word bit)
+
+-- the bit of the rank is among so many from the low one on
+pub record IsAmong (word rank low width left : ℕ) : Type 0 where
+  pub within : low + width ≤ 64
+  pub sum : ones_below word low + left ≡ rank
+  pub upper : rank < ones_below word (low + width)
+  pub power : IsPowerOfTwo width
+
+pub IsAmong-whole : (word rank : ℕ) → word < 18446744073709551616 → rank < count_ones word → IsAmong word rank 0 64 rank
+IsAmong-whole word rank fits less = record {
+  within = omega arith;
+  sum = omega (arith, ones_below-none word);
+  upper = omega (arith, ones_below-whole word fits);
+  power = (6, refl);
+}
+
+pub IsAmong-step : (word rank low half left : ℕ) (first : Bool) → IsAmong word rank low (2 * half) left → IsPowerOfTwo half → first ≡ nat_lt left (ones_below (word / 2 ^ low) half)
+    → IsAmong word rank (low + (half - cond first half 0)) half (left + cond first (ones_below (word / 2 ^ low) half) 0 - ones_below (word / 2 ^ low) half)
+IsAmong-step word rank low half left true among power is =
+    let less = ltb-true left (ones_below (word / 2 ^ low) half) (sym is) in
+    let start : low + (half - half) ≡ low = omega arith in
+    let same : left + ones_below (word / 2 ^ low) half - ones_below (word / 2 ^ low) half ≡ left = omega arith in
+    rw (start, same) (record { within = omega (arith, among.within); sum = among.sum; upper = omega (arith, less, among.sum, ones_below-add word low half); power = power })
+IsAmong-step word rank low half left false among power is =
+    let reached = ltb-false left (ones_below (word / 2 ^ low) half) (sym is) in
+    let start : low + (half - 0) ≡ low + half = omega arith in
+    let same : left + 0 ≡ left = omega arith in
+    let end : low + half + half ≡ low + 2 * half = omega arith in
+    rw (start, same) (record {
+      within = omega (arith, among.within);
+      sum = omega (arith, reached, among.sum, ones_below-add word low half);
+      upper = rw end among.upper;
+      power = power;
+    })
+
+-- alone it is the bit
+pub IsAmong-rank : (word rank low width left : ℕ) → IsAmong word rank low width left → width ≤ 1 → IsBitOfRank word rank low
+IsAmong-rank word rank low width left among narrow =
+    let alone : width ≡ 1 = omega (arith, narrow, among.power.1, pow_pos among.power.0) in
+    let next : low + width ≡ suc low = omega arith in
+    let upper = among.upper in
+    let sum = among.sum in
+    let digit = bit_at-lt word low in
+    let at = ap (ones_below word) next ∙ ones_below-next word low in
+    record { inside = omega (arith, among.within); one = omega (arith, at, upper, sum, digit); ranked = omega (arith, at, upper, sum, digit) }

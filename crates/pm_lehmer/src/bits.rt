@@ -1,6 +1,16 @@
-//! The ones of a word of 64 bits, from the lowest bit on.
-ghost use Rattle.std.specs.Prelude.{◌≡◌, ◌-◌, ◌^◌, ◌<◌, ◌≤◌, count_ones};
+//! The ones of a word of 64 bits, from the lowest bit on, and choices without a branch.
+ghost use Rattle.std.specs.Prelude.{◌≡◌, ◌-◌, ◌^◌, ◌<◌, ◌≤◌, cond, nat_lt, count_ones};
 ghost use Rattle.pm_lehmer.specs.steps.Held.{ones_below, IsBitOfRank};
+
+/// The value where the number is less than the bound, and else 0: their difference borrows 1 or 0.
+pub(crate) fn if_less(number: usize, bound: usize, value: usize) -> usize
+    requires low { number < 2 ^ 63 }
+    requires bounded { bound < 2 ^ 63 }
+    ensures value { result ≡ cond (nat_lt number bound) value 0 }
+    ensures at_most { result ≤ value }
+{
+    value * (number.wrapping_sub(bound) >> 63)
+}
 
 /// How many ones of the word are below the bit.
 pub(crate) fn ones_below(word: u64, bit: u32) -> u32
@@ -16,11 +26,16 @@ pub(crate) fn bit_of_rank(word: u64, rank: usize) -> u32
     requires { rank < count_ones word }
     ensures { IsBitOfRank word rank result }
 {
-    let mut left = word;
-    'lowest: for _below in 0..rank {
-        left &= left - 1;
+    let mut low = 0;
+    let mut width = 64;
+    let mut left = rank;
+    'halving: while width > 1 {
+        width /= 2;
+        let first_half = ones_below(word >> low, width) as usize;
+        low += width - if_less(left, first_half, width as usize) as u32;
+        left = left + if_less(left, first_half, first_half) - first_half;
     }
-    left.trailing_zeros()
+    low
 }
 
 /// The word of which so many of the lowest bits are ones, and no other.

@@ -2,9 +2,11 @@
 //! over the halves of the interval from 0 to the length of the list, a power of two: the count at a middle is of the
 //! numbers in the first half of its interval. A way down the tree has a step for each level, and no step branches: which
 //! half it takes is told by what a difference borrows.
-ghost use Rattle.std.specs.Prelude.{◌≡◌, ℕ, ◌+◌, ◌^◌, ◌<◌, ◌≤◌, length, slice_index, cond, nat_lt};
+ghost use Rattle.std.specs.Prelude.{◌≡◌, ℕ, ◌+◌, ◌^◌, ◌<◌, ◌≤◌, length, slice_index};
 ghost use Rattle.std.specs.Int.{IsPowerOfTwo};
 ghost use Rattle.pm_lehmer.specs.steps.Counted.{IsCounted, IsMore};
+
+use crate::bits::if_less;
 
 /// The length of the list for so many numbers.
 pub(crate) fn list_length(numbers: usize) -> usize
@@ -64,14 +66,4 @@ pub(crate) fn take(counts: &mut [u32], rank: usize) -> (usize, usize)
         left = left + if_less(left, first_half, first_half) - first_half;
     }
     (low, left)
-}
-
-// The value where the number is less than the bound, and else 0: their difference borrows 1 or 0.
-fn if_less(number: usize, bound: usize, value: usize) -> usize
-    requires low { number < 2 ^ 63 }
-    requires bounded { bound < 2 ^ 63 }
-    ensures value { result ≡ cond (nat_lt number bound) value 0 }
-    ensures at_most { result ≤ value }
-{
-    value * (number.wrapping_sub(bound) >> 63)
 }
