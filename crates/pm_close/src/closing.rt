@@ -9,6 +9,7 @@ ghost use Rattle.pm_close.specs.declared.closing.CloseRefusal.TheVariants.{Memor
 
 use crate::joining::twins_of;
 use crate::levels::{Levels, levels_of};
+use crate::one_pass::closed_rotation;
 use crate::rotation::rotation_of;
 use pm_map::{RootedMap, darts_of};
 use pm_match::{Pairing, matching, plant_bud};
@@ -58,7 +59,8 @@ pub fn close_tree(alloc: Global, tree: &Tree) -> Result<Closed, CloseRefusal>
     Ok(close_paired(alloc, tree, &across, &pairing)?)
 }
 
-/// The map of a tree that is known to be balanced: the plant's bud isn't looked for, and no levels are made.
+/// The map of a tree that is known to be balanced, in one pass along its letters: the plant's bud isn't looked for, and no
+/// levels are made.
 ///
 /// # Errors
 ///
@@ -67,10 +69,9 @@ pub fn close_balanced(alloc: Global, tree: &Tree) -> Result<RootedMap, AllocErro
     requires { IsBalanced (contour tree.now) }
     ensures { IfOk result (IsClosed (contour tree.now)) }
 {
-    let across = brackets(alloc, tree)?;
-    let pairing = matching(alloc, tree)?;
-    let numbered = number(alloc, tree, &across, &pairing)?;
-    Ok(numbered.map)
+    let letters = tree.letters();
+    let sigma = closed_rotation(alloc, letters)?;
+    Ok(RootedMap::from_rooted_rotation(sigma, 0))
 }
 
 /// Closes a tree that is known to be balanced, whose brackets and pairs are at hand: those that `brackets` and `matching`

@@ -5,6 +5,7 @@ mod closing;
 mod joining;
 mod laws;
 mod levels;
+mod one_pass;
 mod rotation;
 
 pub use closing::{CloseRefusal, Closed, close_balanced, close_paired, close_tree};

@@ -41,9 +41,16 @@ fn refuses_a_paired_plant(rt: HostRuntime) -> Result<(), Fail> {
 
 #[test]
 fn closes_what_is_balanced(rt: HostRuntime) -> Result<(), Fail> {
-    let tree = read_tree(rt.alloc(), b"bll")?;
-    assert!(rt; pm_match::is_balanced(&tree));
-    let map = close_balanced(rt.alloc(), &tree)?;
-    assert_eq!(rt; map.sigma(), [2, 0, 3, 1].as_slice());
+    for (word, sigma) in [
+        (b"lbl".as_slice(), [1, 2, 3, 0].as_slice()),
+        (b"bll", &[2, 0, 3, 1]),
+        (b"b(bll)l", &[2, 0, 4, 5, 1, 6, 7, 3]),
+    ] {
+        assert!(rt; word.len() < 100);
+        let tree = read_tree(rt.alloc(), word)?;
+        assert!(rt; pm_match::is_balanced(&tree));
+        let map = close_balanced(rt.alloc(), &tree)?;
+        assert_eq!(rt; map.sigma(), sigma);
+    }
     Ok(())
 }
