@@ -1,5 +1,5 @@
 //! Planting: a plane tree with a bud pattern at each node is a blossoming tree.
-ghost use Rattle.std.specs.Prelude.{◌≡◌, ℕ, suc, ◌+◌, ◌-◌, ◌*◌, ◌<◌, ◌≤◌, ◌++◌, List, All, IfOk, OnOk, length, reverse, vec_len};
+ghost use Rattle.std.specs.Prelude.{◌≡◌, ℕ, suc, ◌+◌, ◌-◌, ◌*◌, ◌<◌, ◌≤◌, ◌++◌, List, All, IfOk, OnOk, length, reverse, vec_len, if◌then◌else◌};
 ghost use Rattle.pm_limits.specs.declared.TheConstants.{MAX_EDGES};
 ghost use Rattle.pm_trees.specs.Binomial.{choose};
 ghost use Rattle.pm_trees.specs.BudPattern.{HasRank, IsHalfDegree};
@@ -8,7 +8,7 @@ ghost use Rattle.pm_planting.specs.Kinds.{IsKind, IsWordOfKinds, letters_in};
 
 use crate::kind::Kind;
 use pm_limits::MAX_DEGREE;
-use pm_trees::{CLOSE, LEAF, OPEN, SLOT, Tree, pattern};
+use pm_trees::{BUD, CLOSE, LEAF, OPEN, SLOT, Tree, pattern};
 use std::alloc::{AllocError, Global};
 
 /// The blossoming tree whose objects in preorder are of these kinds, planted above the first: a node has the bud pattern of
@@ -68,10 +68,32 @@ fn add_pattern(rank: u64, half: u32, ahead: &mut Vec<u8>) -> Result<(), AllocErr
     ensures pattern { OnOk result ((word : List ℕ) × HasRank half word rank × (ahead.new.items ≡ ahead.old.items ++ reverse word)) }
     ensures len { OnOk result (vec_len ahead.new + 1 ≡ vec_len ahead.old + 2 * half) }
 {
+    if half == 2 {
+        return add_one_bud(rank, ahead);
+    }
     let mut letters = [0; MAX_DEGREE as usize - 1];
     let entries = &mut letters[..2 * half as usize - 1];
     pattern(rank, half, entries);
     entries.reverse();
     ahead.extend_from_slice(entries)?;
     Ok(())
+}
+
+/// The same for a node of degree 4, whose one bud is at the entry of the rank.
+fn add_one_bud(rank: u64, ahead: &mut Vec<u8>) -> Result<(), AllocError>
+    requires { rank < choose 3 2 }
+    ensures pattern { OnOk result ((word : List ℕ) × HasRank 2 word rank × (ahead.new.items ≡ ahead.old.items ++ reverse word)) }
+    ensures len { OnOk result (vec_len ahead.new ≡ vec_len ahead.old + 3) }
+{
+    ahead.push(entry(rank == 2))?;
+    ahead.push(entry(rank == 1))?;
+    ahead.push(entry(rank == 0))?;
+    Ok(())
+}
+
+/// A bud, or else a slot.
+fn entry(is_bud: bool) -> u8
+    ensures { result ≡ (if is_bud then BUD else SLOT) }
+{
+    if is_bud { BUD } else { SLOT }
 }

@@ -4,16 +4,17 @@ pub mod Binomials
 pub mod Bracketed
 pub mod CountedPairs
 pub mod Dyck
+mod Filling
 pub mod LeafCounts
 pub mod LeafTurns
 mod Least
 pub mod Levels
 pub mod Listing
 pub mod Nesting
+pub mod OneBud
 pub mod Own
 mod PairRules
 mod Pairing
-mod Filling
 pub mod PlantedAt
 mod Profiles
 pub mod Ranked

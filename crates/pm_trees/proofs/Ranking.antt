@@ -63,6 +63,11 @@ pub word_of : ℕ → ℕ → ℕ → List ℕ
 word_of zero s r = []
 word_of (suc n) s r = cond (nat_lt r (choose n s)) (BUD ∷ word_of n s r) (SLOT ∷ word_of n (s - 1) (r - choose n s))
 
+-- those of the three numbers of words of three letters with two slots
+pub quartic_words : (word_of 3 2 0 ≡ BUD ∷ SLOT ∷ SLOT ∷ []) × (word_of 3 2 1 ≡ SLOT ∷ BUD ∷ SLOT ∷ []) × (word_of 3 2 2 ≡ SLOT ∷ SLOT ∷ BUD ∷ [])
+unfolding word_of choose
+quartic_words = (refl, refl, refl)
+
 pub word_of_none : (s r : ℕ) → word_of 0 s r ≡ []
 unfolding word_of
 word_of_none s r = refl

@@ -74,12 +74,29 @@ pub fn pattern(rank: u64, half: u32, out: &mut [u8])
     }
 }
 
+/// The rank of a pattern of three letters, which is the index of its one bud.
+fn bud_place(letters: &[u8]) -> u64
+    requires { IsPattern 2 letters.now }
+    ensures { HasRank 2 letters.now result }
+{
+    if letters[0] == BUD {
+        0
+    } else if letters[1] == BUD {
+        1
+    } else {
+        2
+    }
+}
+
 /// The rank of a bud pattern, from 0 in dictionary order with `b` before `c`.
 pub fn rank(letters: &[u8]) -> u64
     requires half { IsHalfDegree (half_degree letters.now) }
     requires pattern { IsPattern (half_degree letters.now) letters.now }
     ensures { HasRank (half_degree letters.now) letters.now result }
 {
+    if letters.len() == 3 {
+        return bud_place(letters);
+    }
     let mut left = letters.len() as u32;
     let mut slots = (left + 1) / 2;
     let mut total = pattern_count(slots);
