@@ -12,7 +12,7 @@ use Rattle.std.proofs.lemmas.List.Sums.{get_or-le-sum_by, sum_by-cons}
 use Rattle.std.proofs.lemmas.Str.Parse.{digit_at}
 use Rattle.std.proofs.lemmas.Str.Pattern.{IsSplitOnceResult, split_after}
 use Rattle.pm_text.proofs.NumeralLemmas.{decimal_is_number}
-use Rattle.pm_trees.specs.First.{IsFirst}
+use Rattle.pm_brackets.specs.First.{IsFirst}
 use Rattle.pm_trees.specs.Pairs.{BreaksPair, empty, wrong, IsProfile, degree_sum}
 use Rattle.pm_trees.specs.Profile.{HasTooMany}
 use Rattle.pm_cli.specs.ProfileWord.{colon, comma, pair_text, profile_text, IsPairOfWords, ArePairsOfWords}

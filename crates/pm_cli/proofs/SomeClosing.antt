@@ -8,7 +8,7 @@ use Rattle.pm_perm.proofs.LeastCases.{all_or_least}
 use Rattle.pm_trees.specs.declared.tree.TreeRefusal.{TreeRefusal}
 use Rattle.pm_trees.specs.declared.tree.TreeRefusal.TheVariants as reading
 use Rattle.pm_trees.specs.Blossoming.{IsBlossoming}
-use Rattle.pm_trees.specs.First.{IsFirst}
+use Rattle.pm_brackets.specs.First.{IsFirst}
 use Rattle.pm_trees.specs.Node.{IsNode, BreaksDegree, BreaksBuds}
 use Rattle.pm_trees.specs.Reading.{IsAnswer}
 use Rattle.pm_trees.specs.Word.{contour}

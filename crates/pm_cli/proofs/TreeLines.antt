@@ -14,11 +14,13 @@ use Rattle.pm_text.specs.Broken.{newline, HasNoNewline, IsOneLineForm, IsBrokenL
 use Rattle.pm_text.specs.Reading.{Reading, IsNextLine, reading_of}
 use Rattle.pm_text.proofs.LineLemmas.{HasNoNewline-nil, HasNoNewline-cons, HasNoNewline-append}
 use Rattle.pm_text.proofs.ReaderLemmas.{one_line_missing, one_line_unfinished, one_line_invalid, one_line_followed, one_line_whole}
-use Rattle.pm_trees.specs.declared.letters.TheConstants.{LEAF, BUD, OPEN, CLOSE}
-use Rattle.pm_trees.specs.First.{IsFirst}
-use Rattle.pm_trees.specs.Word.{IsInOrder, IsFault, is_letter, count, contour}
-use Rattle.pm_trees.proofs.Stack.{no_fault}
-use Rattle.pm_trees.proofs.Tally.{letter_cases, a_leaf, a_bud, an_open, a_close}
+use Rattle.pm_trees.specs.declared.letters.TheConstants.{LEAF, BUD}
+use Rattle.pm_brackets.specs.declared.letters.TheConstants.{OPEN, CLOSE}
+use Rattle.pm_brackets.specs.First.{IsFirst}
+use Rattle.pm_trees.specs.Word.{IsInOrder, IsFault, is_letter, contour}
+use Rattle.pm_brackets.specs.Word.{count}
+use Rattle.pm_trees.proofs.FourLetters.{no_fault}
+use Rattle.pm_trees.proofs.FourLetters.{letter_cases, a_leaf, a_bud, an_open, a_close}
 use Rattle.pm_cli.specs.TreeFile.{IsTreeFile, rule_of_word, RefusesTreeFile, broken, no_tree}
 use Rattle.pm_cli.specs.steps.TreeFile.{IsTreeLineOf}
 

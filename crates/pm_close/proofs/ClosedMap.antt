@@ -2,8 +2,9 @@
 use Rattle.std.proofs.Common.{◌≡◌, ℕ, suc, ◌%◌, ◌<◌, List, length, sym, ◌∙◌, ap, subst, arith}
 use Rattle.std.specs.Prelude.{slice_index}
 use Rattle.pm_perm.specs.Permutation.{IsPermutationList}
-use Rattle.pm_trees.specs.Word.{contour, IsBracketing}
-use Rattle.pm_trees.proofs.Nesting.{other_below}
+use Rattle.pm_trees.specs.Word.{contour}
+use Rattle.pm_brackets.specs.Word.{IsBracketing}
+use Rattle.pm_brackets.proofs.Nesting.{other_below}
 use Rattle.pm_match.specs.Pair.{IsBalanced}
 use Rattle.pm_match.specs.Pairing.{Pairs, IsPairing}
 use Rattle.pm_map.specs.Structure.{Structure, CarriesTo}

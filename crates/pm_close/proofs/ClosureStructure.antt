@@ -5,7 +5,7 @@ use Rattle.pm_perm.specs.Permutation.{IsPermutationBelow}
 use Rattle.pm_perm.proofs.SameCycle.{permutation-same}
 use Rattle.pm_trees.specs.Word.{contour}
 use Rattle.pm_trees.specs.Blossoming.{IsBlossoming}
-use Rattle.pm_trees.proofs.Bracketed.{bracketing_exists}
+use Rattle.pm_trees.proofs.FourLetters.{bracketing_exists}
 use Rattle.pm_map.specs.Structure.{Structure, IsStructure}
 use Rattle.pm_close.specs.Closure.{IsClosure}
 use Rattle.pm_close.proofs.ClosureLemmas.{IsLaidOut, laid_out, laid_out_structure, laid_out_twins, bracketing_across}

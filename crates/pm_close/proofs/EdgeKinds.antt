@@ -2,8 +2,9 @@
 use Rattle.std.proofs.Common.{◌≡◌, ◌≢◌, ℕ, ◌<◌, ◌⊎◌, inl, inr, List, length, refl, sym, ◌∙◌, subst, arith}
 use Rattle.std.specs.Prelude.{slice_index}
 use Rattle.std.proofs.lemmas.Bool.{cases_eq}
-use Rattle.pm_trees.specs.declared.letters.TheConstants.{LEAF, BUD, OPEN, CLOSE}
-use Rattle.pm_trees.proofs.Nesting.{opens_inside}
+use Rattle.pm_trees.specs.declared.letters.TheConstants.{LEAF, BUD}
+use Rattle.pm_brackets.specs.declared.letters.TheConstants.{OPEN, CLOSE}
+use Rattle.pm_brackets.proofs.Nesting.{opens_inside}
 use Rattle.pm_match.specs.Pair.{IsFree}
 use Rattle.pm_match.proofs.Straight.{IsStraight, straight, bud_inside, bud_before_free}
 use Rattle.pm_map.specs.EdgeNumbers.{IsTwinning}

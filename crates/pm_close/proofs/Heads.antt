@@ -8,11 +8,13 @@ use Rattle.pm_perm.proofs.Contained.{contains_at, is_at}
 use Rattle.pm_perm.specs.Permutation.{IsPermutationBelow}
 use Rattle.pm_perm.specs.Cycles.{repeated, IsInCycle}
 use Rattle.pm_perm.proofs.SameCycle.{in_cycle-through, in_cycle-back}
-use Rattle.pm_trees.specs.declared.letters.TheConstants.{LEAF, OPEN, CLOSE}
-use Rattle.pm_trees.specs.Word.{IsBracketing, IsInOrder, contour}
+use Rattle.pm_trees.specs.declared.letters.TheConstants.{LEAF}
+use Rattle.pm_brackets.specs.declared.letters.TheConstants.{OPEN, CLOSE}
+use Rattle.pm_brackets.specs.Word.{IsBracketing}
+use Rattle.pm_trees.specs.Word.{IsInOrder, contour}
 use Rattle.pm_trees.specs.Node.{IsNode, own_letters, entries, degree}
-use Rattle.pm_trees.proofs.Nesting.{one_closer}
-use Rattle.pm_trees.proofs.RingPlaces.{mod_stays}
+use Rattle.pm_brackets.proofs.Nesting.{one_closer}
+use Rattle.pm_brackets.proofs.RingPlaces.{mod_stays}
 use Rattle.pm_trees.proofs.Own.{other_here, other_above, open_above, close_above}
 use Rattle.pm_map.specs.Structure.{Structure}
 use Rattle.pm_map.specs.CycleSize.{IsCycleSize}

@@ -4,10 +4,11 @@ use Rattle.std.specs.Prelude.{slice_index, slice_get, Option, None, Some, All}
 use Rattle.std.proofs.lemmas.Bool.{cases_lt, cases_eq}
 use Rattle.std.proofs.lemmas.Grind.{get_or-set_at}
 use Rattle.pm_trees.specs.declared.letters.TheConstants.{LEAF, BUD}
-use Rattle.pm_trees.specs.Word.{IsBracketing, is_letter, contour}
-use Rattle.pm_trees.proofs.Stack.{letters_at}
-use Rattle.pm_trees.proofs.Tally.{letter_cases, a_leaf, a_bud, an_open, a_close}
-use Rattle.pm_trees.proofs.Nesting.{one_closer, one_opener}
+use Rattle.pm_brackets.specs.Word.{IsBracketing}
+use Rattle.pm_trees.specs.Word.{is_letter, contour}
+use Rattle.pm_trees.proofs.FourLetters.{letters_at}
+use Rattle.pm_trees.proofs.FourLetters.{letter_cases, a_leaf, a_bud, an_open, a_close}
+use Rattle.pm_brackets.proofs.Nesting.{one_closer, one_opener}
 use Rattle.pm_match.specs.Pair.{IsPair, IsFree}
 use Rattle.pm_match.specs.Pairing.{Pairs, IsPairing}
 use Rattle.pm_match.proofs.Partners.{third_free}

@@ -10,13 +10,14 @@ use Rattle.pm_perm.proofs.Counts.{count_below-into}
 use Rattle.pm_perm.proofs.InverseLemmas.{place_of, place_of-stays, value-place_of}
 use Rattle.pm_perm.proofs.LeaderMaps.{leader-map, leader-is_least, leader_map-inside, leader_map-twice}
 use Rattle.pm_perm.proofs.SameCycle.{in_cycle-back, in_cycle-leader, leader-in_cycle}
-use Rattle.pm_trees.specs.declared.letters.TheConstants.{OPEN}
-use Rattle.pm_trees.specs.Word.{IsBracketing, IsInOrder, contour}
+use Rattle.pm_brackets.specs.declared.letters.TheConstants.{OPEN}
+use Rattle.pm_brackets.specs.Word.{IsBracketing}
+use Rattle.pm_trees.specs.Word.{IsInOrder, contour}
 use Rattle.pm_trees.specs.Node.{IsNode, degree}
 use Rattle.pm_trees.specs.Degrees.{has_degree, nodes_before, nodes_of}
-use Rattle.pm_trees.proofs.Bracketed.{bracketing_exists}
-use Rattle.pm_trees.proofs.Nesting.{other_below, across_one}
-use Rattle.pm_trees.proofs.RingPlaces.{mod_under}
+use Rattle.pm_trees.proofs.FourLetters.{bracketing_exists}
+use Rattle.pm_brackets.proofs.Nesting.{other_below, across_one}
+use Rattle.pm_brackets.proofs.RingPlaces.{mod_under}
 use Rattle.pm_map.specs.Rotation.{RotationSystem, structure_of, IsRootedMap}
 use Rattle.pm_map.specs.CycleSize.{IsCycleSize}
 use Rattle.pm_map.specs.Classes.{degree_of, vertices_of_degree}

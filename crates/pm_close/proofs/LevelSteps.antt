@@ -7,7 +7,8 @@ use Rattle.std.proofs.lemmas.List.Sums.{count_by_more_yes, count_by_more_no}
 use Rattle.std.proofs.lemmas.Grind.{get_or-set_at}
 use Rattle.pm_perm.specs.Permutation.{IsPermutationList}
 use Rattle.pm_trees.specs.declared.letters.TheConstants.{LEAF, BUD}
-use Rattle.pm_trees.specs.Word.{count, contour}
+use Rattle.pm_brackets.specs.Word.{count}
+use Rattle.pm_trees.specs.Word.{contour}
 use Rattle.pm_close.specs.Level.{IsLevel}
 use Rattle.pm_close.specs.steps.Levelling.{IsLow, IsLevelled, AreLevelsAt}
 

@@ -2,8 +2,9 @@
 use Rattle.std.proofs.Common.{◌≡◌, ℕ, suc, ◌+◌, ◌≤◌, List, ◌∷◌, length, take, refl, ◌∙◌, ap, arith}
 use Rattle.std.proofs.lemmas.List.{take-append-le}
 use Rattle.pm_trees.specs.declared.letters.TheConstants.{LEAF, BUD}
-use Rattle.pm_trees.specs.Word.{count, contour}
-use Rattle.pm_trees.proofs.Tally.{tally_is, tally_yes}
+use Rattle.pm_brackets.specs.Word.{count}
+use Rattle.pm_trees.specs.Word.{contour}
+use Rattle.pm_brackets.proofs.Tally.{tally_is, tally_yes}
 use Rattle.pm_match.specs.Pair.{IsBalanced}
 use Rattle.pm_match.proofs.Counts.{buds, leaves, surplus_from}
 use Rattle.pm_match.proofs.Straight.{low}

@@ -4,14 +4,17 @@ use Rattle.std.specs.Prelude.{slice_index}
 use Rattle.std.proofs.lemmas.Bool.{cases_lt, cases_eq}
 use Rattle.std.proofs.lemmas.List.{get_or_past}
 use Rattle.std.proofs.Math.Seq.{drop-cons}
-use Rattle.pm_trees.specs.declared.letters.TheConstants.{LEAF, OPEN, CLOSE}
-use Rattle.pm_trees.specs.Word.{IsBracketPair, IsBracketing, contour}
+use Rattle.pm_trees.specs.declared.letters.TheConstants.{LEAF}
+use Rattle.pm_brackets.specs.declared.letters.TheConstants.{OPEN, CLOSE}
+use Rattle.pm_brackets.specs.Word.{IsBracketPair, IsBracketing}
+use Rattle.pm_trees.specs.Word.{contour}
 use Rattle.pm_trees.specs.Node.{own_letters}
-use Rattle.pm_trees.proofs.Bracketed.{bracketing_exists}
-use Rattle.pm_trees.proofs.Levels.{seen, seen_yes, seen_no, IsEven, even_start, even_other, even_pair, even_from_pair, even_from_matched, matched_from_even, pair_from_even}
-use Rattle.pm_trees.proofs.Nesting.{one_closer, one_opener}
-use Rattle.pm_trees.proofs.RingPlaces.{mod_stays}
-use Rattle.pm_trees.proofs.Own.{IsOther, other_here, other_above, open_above, close_above}
+use Rattle.pm_trees.proofs.FourLetters.{bracketing_exists}
+use Rattle.pm_brackets.proofs.Levels.{seen, seen_yes, seen_no, IsEven, even_start, even_other, even_pair, even_from_pair, even_from_matched, matched_from_even, pair_from_even}
+use Rattle.pm_brackets.proofs.Nesting.{one_closer, one_opener}
+use Rattle.pm_brackets.proofs.RingPlaces.{mod_stays}
+use Rattle.pm_brackets.specs.Word.{IsOther}
+use Rattle.pm_trees.proofs.Own.{other_here, other_above, open_above, close_above}
 use Rattle.pm_map.specs.Structure.{Structure}
 use Rattle.pm_map.specs.Meeting.{IsVertexFrom}
 use Rattle.pm_close.specs.Closure.{IsAcross, from_open, from_close, from_letter, IsClosure}

@@ -4,12 +4,12 @@ use Rattle.std.specs.Prelude.{slice_index, Option, Some, option_to_list}
 use Rattle.std.proofs.lemmas.Bool.{cases_eq, lt-ltb, le-ltb}
 use Rattle.std.proofs.lemmas.Grind.{get_or-set_at}
 use Rattle.pm_perm.proofs.Counts.{count_below-bound}
-use Rattle.pm_trees.specs.declared.letters.TheConstants.{LEAF, BUD, OPEN, CLOSE}
+use Rattle.pm_trees.specs.declared.letters.TheConstants.{LEAF, BUD}
+use Rattle.pm_brackets.specs.declared.letters.TheConstants.{OPEN, CLOSE}
 use Rattle.pm_trees.specs.Blossoming.{IsBlossoming}
 use Rattle.pm_trees.specs.Word.{contour}
 use Rattle.pm_trees.proofs.Balance.{two_more_leaves}
-use Rattle.pm_trees.proofs.Bracketed.{bracketing_exists}
-use Rattle.pm_trees.proofs.Tally.{letter_cases, a_leaf, a_bud, an_open, a_close}
+use Rattle.pm_trees.proofs.FourLetters.{bracketing_exists, letter_cases, a_leaf, a_bud, an_open, a_close}
 use Rattle.pm_match.specs.Pair.{IsBalanced}
 use Rattle.pm_match.proofs.Counts.{surplus_from}
 use Rattle.pm_map.specs.EdgeNumbers.{IsTwinning, edges_before, dart_of}

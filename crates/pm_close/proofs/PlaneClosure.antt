@@ -6,12 +6,14 @@ use Rattle.pm_perm.specs.Cycles.{cycles}
 use Rattle.pm_perm.specs.Pairs.{IsRingBelow, IsInvolutionBelow, IsNestedBelow, pairs}
 use Rattle.pm_perm.proofs.Counts.{count_below-split, count_below-parts}
 use Rattle.pm_perm.proofs.Nested.{cycles-nested}
-use Rattle.pm_trees.specs.declared.letters.TheConstants.{LEAF, BUD, OPEN, CLOSE}
-use Rattle.pm_trees.specs.Word.{IsBracketPair, IsBracketing, contour}
+use Rattle.pm_trees.specs.declared.letters.TheConstants.{LEAF, BUD}
+use Rattle.pm_brackets.specs.declared.letters.TheConstants.{OPEN, CLOSE}
+use Rattle.pm_brackets.specs.Word.{IsBracketPair, IsBracketing}
+use Rattle.pm_trees.specs.Word.{contour}
 use Rattle.pm_trees.specs.Blossoming.{IsBlossoming}
 use Rattle.pm_trees.proofs.Balance.{two_more_leaves}
-use Rattle.pm_trees.proofs.Bracketed.{bracketing_exists}
-use Rattle.pm_trees.proofs.Nesting.{opens_inside, closes_inside, other_twice, other_below}
+use Rattle.pm_trees.proofs.FourLetters.{bracketing_exists}
+use Rattle.pm_brackets.proofs.Nesting.{opens_inside, closes_inside, other_twice, other_below}
 use Rattle.pm_match.specs.Pair.{IsFree, IsBalanced}
 use Rattle.pm_match.proofs.Counts.{letter-first, surplus_from}
 use Rattle.pm_match.proofs.Meeting.{IsMeeting, pair_first}

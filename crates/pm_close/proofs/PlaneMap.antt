@@ -2,7 +2,7 @@
 use Rattle.std.proofs.Common.{◌≡◌, ℕ, ◌%◌, List, length, sym, ◌∙◌, ap, arith}
 use Rattle.std.specs.Prelude.{slice_index}
 use Rattle.pm_trees.specs.Word.{contour}
-use Rattle.pm_trees.proofs.Bracketed.{bracketing_exists}
+use Rattle.pm_trees.proofs.FourLetters.{bracketing_exists}
 use Rattle.pm_map.specs.Structure.{CarriesTo}
 use Rattle.pm_map.specs.Rotation.{RotationSystem, structure_of}
 use Rattle.pm_map.proofs.CarriedStructure.{structure_carried, connected_carried, euler_carried}

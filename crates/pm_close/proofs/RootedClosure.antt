@@ -4,7 +4,7 @@ use Rattle.std.specs.Prelude.{slice_index}
 use Rattle.pm_trees.specs.Word.{contour}
 use Rattle.pm_trees.specs.Blossoming.{IsBlossoming}
 use Rattle.pm_trees.proofs.Balance.{two_more_leaves}
-use Rattle.pm_trees.proofs.Bracketed.{bracketing_exists}
+use Rattle.pm_trees.proofs.FourLetters.{bracketing_exists}
 use Rattle.pm_match.proofs.Paired.{pairing_exists}
 use Rattle.pm_close.specs.Laws.{HasOneClosure}
 use Rattle.pm_close.proofs.ClosureLemmas.{bracketing_across}

@@ -6,11 +6,12 @@ use Rattle.std.proofs.lemmas.Bool.{cases_lt}
 use Rattle.std.proofs.lemmas.List.FromFn.{get_or-map-range_with_len, length-map-range_with_len}
 use Rattle.pm_perm.proofs.InverseLemmas.{place_of, place_of-of_value}
 use Rattle.pm_perm.specs.Permutation.{IsPermutationBelow}
-use Rattle.pm_trees.specs.Word.{contour, IsInOrder, IsBracketing}
+use Rattle.pm_trees.specs.Word.{contour, IsInOrder}
+use Rattle.pm_brackets.specs.Word.{IsBracketing}
 use Rattle.pm_trees.proofs.Balance.{two_more_leaves}
-use Rattle.pm_trees.proofs.Bracketed.{bracketing_exists}
-use Rattle.pm_trees.proofs.Stack.{letters_at}
-use Rattle.pm_trees.proofs.Tally.{letter_cases, a_leaf, a_bud, an_open, a_close}
+use Rattle.pm_trees.proofs.FourLetters.{bracketing_exists}
+use Rattle.pm_trees.proofs.FourLetters.{letters_at}
+use Rattle.pm_trees.proofs.FourLetters.{letter_cases, a_leaf, a_bud, an_open, a_close}
 use Rattle.pm_match.specs.Pair.{IsFree}
 use Rattle.pm_match.specs.Pairing.{Pairs, IsPairing}
 use Rattle.pm_match.proofs.Paired.{pairing_exists}

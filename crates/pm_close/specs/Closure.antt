@@ -1,7 +1,7 @@
 -- The closure of a blossoming tree (Schaeffer 1997). Its darts are the places of the contour, the plant at place 0.
 use Rattle.std.specs.Prelude.{◌≡◌, ◌≢◌, ℕ, suc, ◌%◌, ◌<◌, List, length, slice_index}
-use Rattle.pm_trees.specs.declared.letters.TheConstants.{OPEN, CLOSE}
-use Rattle.pm_trees.specs.Word.{IsBracketPair}
+use Rattle.pm_brackets.specs.declared.letters.TheConstants.{OPEN, CLOSE}
+use Rattle.pm_brackets.specs.Word.{IsBracketPair}
 use Rattle.pm_match.specs.Pair.{IsPair, IsFree}
 use Rattle.pm_map.specs.Structure.{Structure, CarriesTo}
 use Rattle.pm_map.specs.Rotation.{RotationSystem, structure_of}

@@ -2,7 +2,7 @@
 -- count +1, each other leaf -1, and brackets nothing.
 use Rattle.std.specs.Prelude.{◌≡◌, ℕ, suc, ◌+◌, ◌<◌, List, length, slice_index, take, drop}
 use Rattle.pm_trees.specs.declared.letters.TheConstants.{LEAF, BUD}
-use Rattle.pm_trees.specs.Word.{count}
+use Rattle.pm_brackets.specs.Word.{count}
 use Rattle.pm_map.specs.Structure.{Structure}
 use Rattle.pm_map.specs.EdgeNumbers.{dart_of}
 

@@ -1,7 +1,8 @@
 -- The nodes of a tree are the vertices of its closure.
 use Rattle.std.specs.Prelude.{◌≡◌, ◌≢◌, ℕ, ◌<◌, ◌⊎◌, List, length, drop, map, slice_index}
-use Rattle.pm_trees.specs.declared.letters.TheConstants.{CLOSE}
-use Rattle.pm_trees.specs.Word.{IsBracketPair, IsInOrder, IsMatched, between, contour}
+use Rattle.pm_brackets.specs.declared.letters.TheConstants.{CLOSE}
+use Rattle.pm_brackets.specs.Word.{IsBracketPair, IsMatched, between}
+use Rattle.pm_trees.specs.Word.{IsInOrder, contour}
 use Rattle.pm_trees.specs.Node.{IsNode, entries}
 use Rattle.pm_map.specs.Structure.{Structure}
 use Rattle.pm_map.specs.Meeting.{IsVertexFrom}

@@ -1,5 +1,6 @@
 ghost use Rattle.std.specs.Prelude.{◌≡◌, IfOk};
-ghost use Rattle.pm_trees.specs.Word.{IsBracketing, contour};
+ghost use Rattle.pm_brackets.specs.Word.{IsBracketing};
+ghost use Rattle.pm_trees.specs.Word.{contour};
 ghost use Rattle.pm_match.specs.Pair.{IsBalanced};
 ghost use Rattle.pm_match.specs.Pairing.{IsPairing};
 ghost use Rattle.pm_close.specs.Closing.{ClosesTo, IsClosing};

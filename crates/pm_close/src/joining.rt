@@ -1,5 +1,6 @@
 ghost use Rattle.std.specs.Prelude.{◌≡◌, ℕ, ◌<◌, length, vec_len, IfOk};
-ghost use Rattle.pm_trees.specs.Word.{contour, IsBracketing};
+ghost use Rattle.pm_trees.specs.Word.{contour};
+ghost use Rattle.pm_brackets.specs.Word.{IsBracketing};
 ghost use Rattle.pm_match.specs.Pairing.{IsPairing};
 ghost use Rattle.pm_close.specs.steps.Joining.{IsJoined};
 ghost use Rattle.pm_close.specs.steps.Twins.{IsTwinList};

@@ -5,7 +5,8 @@ ghost use Rattle.pm_trees.specs.Word.{contour};
 ghost use Rattle.pm_match.specs.Pair.{IsBalanced};
 ghost use Rattle.pm_close.specs.Closure.{IsClosed};
 
-use pm_trees::{BUD, CLOSE, OPEN};
+use pm_brackets::{CLOSE, OPEN};
+use pm_trees::BUD;
 use std::alloc::{AllocError, Global};
 
 // The rotation of the closure of a balanced word. No pair passes the plant, so brackets are closed from one stack, and

@@ -3,7 +3,8 @@ use Rattle.std.proofs.Common.{ℕ, ◌<◌, List, take, refl}
 use Rattle.pm_match.proofs.FreeMarks.{free_marks}
 use Rattle.pm_trees.proofs.PlantedAt.{chosen_exists, anew_from, anew_blossoms}
 use Rattle.pm_trees.specs.declared.letters.TheConstants.{LEAF}
-use Rattle.pm_trees.specs.Word.{contour, count}
+use Rattle.pm_trees.specs.Word.{contour}
+use Rattle.pm_brackets.specs.Word.{count}
 use Rattle.pm_trees.specs.Blossoming.{IsBlossoming}
 use Rattle.pm_trees.specs.Leaves.{IsLeafAt}
 use Rattle.pm_trees.specs.Replanted.{IsReplanted}

@@ -17,7 +17,7 @@ use Rattle.pm_map.proofs.DegreeCounts.{HasSize, has_size, degree_counts_darts}
 use Rattle.pm_map.proofs.DegreeRules.{least_other_is_unique}
 use Rattle.pm_map.proofs.DegreesTaken.{dart_takes, dart_of_degree, darts_below, darts_below-more, darts_below-bound}
 use Rattle.pm_map.proofs.TableLemmas.{one_vertex}
-use Rattle.pm_trees.specs.First.{IsFirst}
+use Rattle.pm_brackets.specs.First.{IsFirst}
 use Rattle.pm_trees.specs.Pairs.{IsProfile, BreaksPair, empty, wrong, pair_at}
 use Rattle.pm_trees.specs.Profile.{HasTooMany}
 use Rattle.pm_trees.specs.Degrees.{AreListed}

@@ -4,7 +4,8 @@ use Rattle.pm_match.proofs.FreeMarks.{free_two}
 use Rattle.pm_trees.proofs.PlantedAt.{later_chosen, earlier_chosen, chosen_is}
 use Rattle.std.specs.Prelude.{take, slice_index}
 use Rattle.pm_trees.specs.declared.letters.TheConstants.{LEAF}
-use Rattle.pm_trees.specs.Word.{contour, count}
+use Rattle.pm_trees.specs.Word.{contour}
+use Rattle.pm_brackets.specs.Word.{count}
 use Rattle.pm_trees.specs.Blossoming.{leaves}
 use Rattle.pm_trees.specs.Leaves.{IsLeafAt}
 use Rattle.pm_trees.specs.Replanting.{leaf_after}

@@ -4,7 +4,8 @@ use Rattle.pm_match.proofs.FreeMarks.{free_two, free_marks}
 use Rattle.pm_trees.proofs.PlantedAt.{later_chosen, has_number, earlier_chosen, anew_back, anew_alike}
 use Rattle.pm_limits.specs.declared.TheConstants.{MAX_DEGREE}
 use Rattle.pm_trees.specs.declared.letters.TheConstants.{LEAF}
-use Rattle.pm_trees.specs.Word.{contour, count}
+use Rattle.pm_trees.specs.Word.{contour}
+use Rattle.pm_brackets.specs.Word.{count}
 use Rattle.pm_trees.specs.Blossoming.{IsBlossoming, leaves}
 use Rattle.pm_trees.specs.Degrees.{nodes_of}
 use Rattle.pm_trees.specs.Leaves.{IsLeafAt}

@@ -6,7 +6,7 @@ use Rattle.std.proofs.lemmas.List.{get_or_append_left, get_or-append-add, length
 use Rattle.std.proofs.lemmas.List.Sums.{count_by_more_yes, count_by_more_no, sum_by-append}
 use Rattle.std.proofs.Math.Seq.{take-add, take-append-add}
 use Rattle.pm_trees.specs.declared.letters.TheConstants.{LEAF, BUD}
-use Rattle.pm_trees.specs.Word.{count}
+use Rattle.pm_brackets.specs.Word.{count}
 use Rattle.pm_match.specs.Pair.{stretch}
 
 -- the letter at a place of the two turns

@@ -6,12 +6,14 @@ use Rattle.std.proofs.lemmas.List.{length-append}
 use Rattle.std.proofs.lemmas.List.Sums.{count_by_more_yes, count_by_more_no}
 use Rattle.std.proofs.Math.Nat.{add-mod-mod, mod-add-mod, add-mod_left}
 use Rattle.pm_trees.specs.declared.letters.TheConstants.{LEAF, BUD}
-use Rattle.pm_trees.specs.Word.{count, contour, IsBracketing}
+use Rattle.pm_brackets.specs.Word.{count, IsBracketing}
+use Rattle.pm_trees.specs.Word.{contour}
 use Rattle.pm_trees.specs.Blossoming.{IsBlossoming}
-use Rattle.pm_trees.specs.Replanted.{IsReplanted, IsTurned, place_from}
-use Rattle.pm_trees.proofs.Bracketed.{bracketing_exists}
-use Rattle.pm_trees.proofs.Own.{IsOther}
-use Rattle.pm_trees.proofs.RingPlaces.{mod_stays, mod_under, steps_to, steps_to_is, steps_under, steps_lead, letter_back, turned_back}
+use Rattle.pm_trees.specs.Replanted.{IsReplanted}
+use Rattle.pm_brackets.specs.Ring.{IsTurned, place_from}
+use Rattle.pm_trees.proofs.FourLetters.{bracketing_exists}
+use Rattle.pm_brackets.specs.Word.{IsOther}
+use Rattle.pm_brackets.proofs.RingPlaces.{mod_stays, mod_under, steps_to, steps_to_is, steps_under, steps_lead, letter_back, turned_back}
 use Rattle.pm_trees.proofs.Replants.{replanted_alike}
 use Rattle.pm_match.specs.Pair.{IsPair, IsFree, stretch}
 use Rattle.pm_match.specs.Turning.{PairsAreTurned, FreeLeavesAreTurned, FreeLeafBalances}

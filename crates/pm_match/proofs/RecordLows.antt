@@ -3,7 +3,8 @@ use Rattle.std.proofs.Common.{◌≡◌, ◌≢◌, ℕ, suc, ◌+◌, ◌-◌, 
 use Rattle.std.specs.Prelude.{slice_index}
 use Rattle.std.proofs.lemmas.Bool.{cases_lt, cases_eq}
 use Rattle.pm_trees.specs.declared.letters.TheConstants.{LEAF, BUD}
-use Rattle.pm_trees.specs.Word.{count, contour}
+use Rattle.pm_brackets.specs.Word.{count}
+use Rattle.pm_trees.specs.Word.{contour}
 use Rattle.pm_match.specs.Pair.{IsFree}
 use Rattle.pm_match.specs.FreeLeaves.{AreFreeLeaves}
 use Rattle.pm_match.proofs.Counts.{letter, buds, leaves, letter-first, IsStep, at_bud, at_leaf, at_other, start, HasSurplus, surplus_from}

@@ -3,7 +3,8 @@ use Rattle.std.proofs.Common.{◌≡◌, ◌≢◌, ℕ, zero, suc, ◌+◌, ◌
 use Rattle.std.specs.Prelude.{slice_index}
 use Rattle.std.proofs.lemmas.Bool.{cases_eq, eqb-true}
 use Rattle.pm_trees.specs.declared.letters.TheConstants.{LEAF, BUD}
-use Rattle.pm_trees.specs.Word.{count, contour}
+use Rattle.pm_brackets.specs.Word.{count}
+use Rattle.pm_trees.specs.Word.{contour}
 use Rattle.pm_match.specs.Pair.{IsPair, IsFree, IsBalanced}
 use Rattle.pm_match.proofs.Counts.{letter, buds, leaves, letter-first, letter-second, at_bud, at_leaf, at_other, HasSurplus, surplus_from}
 use Rattle.pm_match.proofs.Meeting.{IsMeeting, met_after, pair_of_meeting, meeting_of_pair}

@@ -4,7 +4,8 @@ use Rattle.std.specs.Prelude.{slice_index}
 use Rattle.std.specs.Bool.{OnTrue, OnFalse}
 use Rattle.std.proofs.lemmas.List.{get_or_read}
 use Rattle.pm_trees.specs.declared.letters.TheConstants.{LEAF, BUD}
-use Rattle.pm_trees.specs.Word.{count, contour}
+use Rattle.pm_brackets.specs.Word.{count}
+use Rattle.pm_trees.specs.Word.{contour}
 use Rattle.pm_match.specs.Pairing.{IsPairing}
 use Rattle.pm_match.specs.steps.Waiting.{Opens, Meets, Passes}
 use Rattle.pm_match.proofs.Counts.{HasSurplus, surplus_from}

@@ -2,7 +2,7 @@
 -- counts as a leaf.
 use Rattle.std.specs.Prelude.{◌≡◌, ℕ, suc, ◌+◌, ◌%◌, ◌<◌, ◌≤◌, List, ◌++◌, length, slice_index, take, drop}
 use Rattle.pm_trees.specs.declared.letters.TheConstants.{LEAF, BUD}
-use Rattle.pm_trees.specs.Word.{count}
+use Rattle.pm_brackets.specs.Word.{count}
 
 -- the letters at the n places after place p, read cyclically, n within one turn
 abbrev pub stretch : List ℕ → ℕ → ℕ → List ℕ

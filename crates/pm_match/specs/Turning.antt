@@ -2,7 +2,8 @@
 use Rattle.std.specs.Prelude.{ℕ, ◌<◌, ◌↔◌, List, length}
 use Rattle.pm_trees.specs.Word.{contour}
 use Rattle.pm_trees.specs.Blossoming.{IsBlossoming}
-use Rattle.pm_trees.specs.Replanted.{IsReplanted, place_from}
+use Rattle.pm_trees.specs.Replanted.{IsReplanted}
+use Rattle.pm_brackets.specs.Ring.{place_from}
 use Rattle.pm_match.specs.Pair.{IsPair, IsFree, IsBalanced}
 
 -- a bud and a leaf of the replanted tree are a pair where they were one, at the old places

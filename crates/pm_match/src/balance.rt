@@ -1,6 +1,7 @@
 ghost use Rattle.std.specs.Prelude.{◌≡◌, suc, ◌+◌, ◌^◌, ◌<◌, length, ◌↔◌, IsTrue, MatchOption};
 ghost use Rattle.pm_trees.specs.declared.letters.TheConstants.{LEAF as leaf, BUD as bud};
-ghost use Rattle.pm_trees.specs.Word.{count, contour};
+ghost use Rattle.pm_brackets.specs.Word.{count};
+ghost use Rattle.pm_trees.specs.Word.{contour};
 ghost use Rattle.pm_match.specs.Pair.{IsPair, IsBalanced};
 
 use pm_trees::{BUD, LEAF, Tree};

@@ -1,11 +1,13 @@
 ghost use Rattle.std.specs.Prelude.{◌≡◌, ℕ, suc, ◌+◌, ◌-◌, ◌^◌, ◌<◌, ◌≤◌, List, length, slice_index, vec_len, OnOk, IfOk};
 ghost use Rattle.std.specs.Bool.{OnTrue, OnFalse};
 ghost use Rattle.pm_trees.specs.declared.letters.TheConstants.{LEAF as leaf, BUD as bud};
-ghost use Rattle.pm_trees.specs.Word.{count, contour};
+ghost use Rattle.pm_brackets.specs.Word.{count};
+ghost use Rattle.pm_trees.specs.Word.{contour};
 ghost use Rattle.pm_match.specs.Pairing.{IsPairing};
 ghost use Rattle.pm_match.specs.steps.Waiting.{Opens, Meets, Passes, top_of};
 
-use pm_trees::{BUD, LEAF, Tree, letter_at};
+use pm_brackets::letter_at;
+use pm_trees::{BUD, LEAF, Tree};
 use std::alloc::{AllocError, Global};
 use std::marker::Model;
 

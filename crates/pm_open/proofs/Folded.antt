@@ -4,7 +4,7 @@ use Rattle.std.specs.Prelude.{slice_index}
 use Rattle.std.proofs.lemmas.Bool.{cases_eq}
 use Rattle.pm_perm.specs.Count.{count_below}
 use Rattle.pm_perm.proofs.Counts.{count_below-into}
-use Rattle.pm_trees.proofs.Levels.{seen, seen_yes, seen_no}
+use Rattle.pm_brackets.proofs.Levels.{seen, seen_yes, seen_no}
 
 -- between place a and place b each of the two letters has the other one at its other place
 pub record IsFolded (places : List ℕ) (first second : ℕ) (other : ℕ → ℕ) (a b : ℕ) : Type 0 where

@@ -1,6 +1,7 @@
 -- The letters of darts that are numbered along the walk that opens a structure. The word of the opening is read along it.
 use Rattle.std.specs.Prelude.{◌≡◌, ℕ, ◌<◌, nat_lt, ◌==◌, List, length, slice_index, if◌then◌else◌}
-use Rattle.pm_trees.specs.declared.letters.TheConstants.{LEAF, BUD, OPEN, CLOSE}
+use Rattle.pm_trees.specs.declared.letters.TheConstants.{LEAF, BUD}
+use Rattle.pm_brackets.specs.declared.letters.TheConstants.{OPEN, CLOSE}
 use Rattle.pm_map.specs.Structure.{Structure}
 use Rattle.pm_distances.proofs.Walked.{is_cut}
 

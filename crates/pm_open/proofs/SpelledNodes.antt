@@ -4,12 +4,14 @@ use Rattle.std.specs.Prelude.{slice_index, count_by}
 use Rattle.std.proofs.lemmas.List.Sums.{sum_by-cons}
 use Rattle.pm_perm.specs.Cycles.{repeated}
 use Rattle.pm_perm.proofs.Repeats.{repeated-inside}
-use Rattle.pm_trees.specs.declared.letters.TheConstants.{BUD, CLOSE}
-use Rattle.pm_trees.specs.Word.{IsBracketing, IsInOrder, contour, count}
+use Rattle.pm_trees.specs.declared.letters.TheConstants.{BUD}
+use Rattle.pm_brackets.specs.declared.letters.TheConstants.{CLOSE}
+use Rattle.pm_brackets.specs.Word.{IsBracketing, count}
+use Rattle.pm_trees.specs.Word.{IsInOrder, contour}
 use Rattle.pm_trees.specs.Node.{IsNode, IsDegree}
 use Rattle.pm_trees.specs.Blossoming.{HasDegrees, HasBuds}
-use Rattle.pm_trees.proofs.Bracketed.{bracketing_exists}
-use Rattle.pm_trees.proofs.Nesting.{other_twice}
+use Rattle.pm_trees.proofs.FourLetters.{bracketing_exists}
+use Rattle.pm_brackets.proofs.Nesting.{other_twice}
 use Rattle.pm_map.specs.Structure.{Structure}
 use Rattle.pm_map.proofs.UniqueMeeting.{vertex_begins}
 use Rattle.pm_close.specs.Closure.{IsClosure}

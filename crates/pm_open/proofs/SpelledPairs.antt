@@ -4,11 +4,13 @@ use Rattle.std.specs.Prelude.{slice_index}
 use Rattle.std.proofs.lemmas.Bool.{cases_eq}
 use Rattle.std.proofs.lemmas.List.{take-append-le}
 use Rattle.std.proofs.lemmas.List.Elements.{All-from_get_or}
-use Rattle.pm_trees.specs.declared.letters.TheConstants.{LEAF, BUD, OPEN, CLOSE}
-use Rattle.pm_trees.specs.Word.{IsBracketPair, IsInOrder, IsMatched, contour, count, is_letter}
-use Rattle.pm_trees.proofs.Tally.{tally_is}
-use Rattle.pm_trees.proofs.Nesting.{one_closer, one_opener}
-use Rattle.pm_trees.proofs.Levels.{seen, seen_is, IsEven, pair_from_even, matched_from_even}
+use Rattle.pm_trees.specs.declared.letters.TheConstants.{LEAF, BUD}
+use Rattle.pm_brackets.specs.declared.letters.TheConstants.{OPEN, CLOSE}
+use Rattle.pm_brackets.specs.Word.{IsBracketPair, IsMatched, count}
+use Rattle.pm_trees.specs.Word.{IsInOrder, contour, is_letter}
+use Rattle.pm_brackets.proofs.Tally.{tally_is}
+use Rattle.pm_brackets.proofs.Nesting.{one_closer, one_opener}
+use Rattle.pm_brackets.proofs.Levels.{seen, seen_is, IsEven, pair_from_even, matched_from_even}
 use Rattle.pm_match.specs.Pair.{IsPair, IsFree}
 use Rattle.pm_match.proofs.Counts.{buds, leaves, letter-first, bud_within}
 use Rattle.pm_match.proofs.Meeting.{IsMeeting, pair_first, pair_unique}

@@ -3,9 +3,10 @@ use Rattle.std.proofs.Common.{◌≡◌, ◌≢◌, ℕ, zero, suc, ◌+◌, ◌
 use Rattle.std.specs.Prelude.{slice_index}
 use Rattle.std.proofs.lemmas.Bool.{cases_lt, cases_eq}
 use Rattle.std.proofs.lemmas.List.{take-append-le, drop-append-le}
-use Rattle.pm_trees.specs.declared.letters.TheConstants.{LEAF, BUD, OPEN, CLOSE}
-use Rattle.pm_trees.specs.Word.{count, between, IsBracketPair, IsBracketing}
-use Rattle.pm_trees.proofs.Levels.{inside}
+use Rattle.pm_trees.specs.declared.letters.TheConstants.{LEAF, BUD}
+use Rattle.pm_brackets.specs.declared.letters.TheConstants.{OPEN, CLOSE}
+use Rattle.pm_brackets.specs.Word.{count, between, IsBracketPair, IsBracketing}
+use Rattle.pm_brackets.proofs.Levels.{inside}
 use Rattle.pm_match.specs.Pair.{IsPair, IsFree, stretch}
 use Rattle.pm_match.proofs.Counts.{letter, buds, leaves, letter-first, at_bud, at_leaf, at_other, start, stretched, leaf_within}
 use Rattle.pm_match.proofs.Meeting.{IsMeeting, met_after, pair_first}

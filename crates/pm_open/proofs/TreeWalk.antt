@@ -4,11 +4,13 @@ use Rattle.std.specs.Prelude.{slice_index}
 use Rattle.std.proofs.lemmas.Bool.{cases_eq, lt-ltb, le-ltb, eq-eqb, ne_eqb}
 use Rattle.pm_perm.proofs.LeaderMaps.{repeated-kept}
 use Rattle.pm_perm.proofs.SameCycle.{in_cycle-through}
-use Rattle.pm_trees.specs.declared.letters.TheConstants.{LEAF, BUD, OPEN, CLOSE}
-use Rattle.pm_trees.specs.Word.{count, contour}
+use Rattle.pm_trees.specs.declared.letters.TheConstants.{LEAF, BUD}
+use Rattle.pm_brackets.specs.declared.letters.TheConstants.{OPEN, CLOSE}
+use Rattle.pm_brackets.specs.Word.{count}
+use Rattle.pm_trees.specs.Word.{contour}
 use Rattle.pm_trees.specs.Blossoming.{IsBlossoming}
 use Rattle.pm_trees.proofs.Balance.{two_more_leaves}
-use Rattle.pm_trees.proofs.Bracketed.{bracketing_exists}
+use Rattle.pm_trees.proofs.FourLetters.{bracketing_exists}
 use Rattle.pm_trees.proofs.Subtree.{subtree_balance}
 use Rattle.pm_match.specs.Pair.{IsBalanced}
 use Rattle.pm_match.proofs.Counts.{buds, leaves, surplus_from}

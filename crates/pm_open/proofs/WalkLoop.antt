@@ -5,7 +5,8 @@ use Rattle.std.proofs.lemmas.Bool.{cases_eq, cases_lt, ne_eqb, lt-ltb, le-ltb}
 use Rattle.std.proofs.lemmas.List.{get_or_append_left}
 use Rattle.std.proofs.Math.Seq.{get_or-append_seam}
 use Rattle.pm_limits.specs.declared.TheConstants.{MAX_DEGREE}
-use Rattle.pm_trees.specs.declared.letters.TheConstants.{LEAF, BUD, OPEN, CLOSE}
+use Rattle.pm_trees.specs.declared.letters.TheConstants.{LEAF, BUD}
+use Rattle.pm_brackets.specs.declared.letters.TheConstants.{OPEN, CLOSE}
 use Rattle.pm_trees.specs.Word.{contour}
 use Rattle.pm_map.specs.declared.admitted.Degrees.TheVariants.{EvenUpTo}
 use Rattle.pm_map.specs.ClassRules.{AllAdmitted}

@@ -9,8 +9,9 @@ ghost use Rattle.pm_open.specs.Opening.{IsOpening};
 ghost use Rattle.pm_walk.specs.Passing.{IsPassed};
 ghost use Rattle.pm_open.specs.steps.Spelling.{is_further, letter_for};
 
+use pm_brackets::{CLOSE, OPEN};
 use pm_map::RootedMap;
-use pm_trees::{BUD, CLOSE, LEAF, OPEN};
+use pm_trees::{BUD, LEAF};
 use pm_walk::{DartKind, Fate, Step, pass};
 use std::alloc::{AllocError, Global};
 

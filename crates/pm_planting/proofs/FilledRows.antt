@@ -4,7 +4,7 @@ use Rattle.std.proofs.lemmas.Bool.{cases_eq}
 use Rattle.std.proofs.lemmas.List.Sums.{count_by-le-length}
 use Rattle.pm_trees.specs.declared.letters.TheConstants.{BUD}
 use Rattle.pm_trees.specs.BudPattern.{IsPattern}
-use Rattle.pm_trees.proofs.Tally.{tally, tally_is, tally-nil, tally_yes, tally_no}
+use Rattle.pm_brackets.proofs.Tally.{tally, tally_is, tally-nil, tally_yes, tally_no}
 use Rattle.pm_planting.specs.Kinds.{filled}
 use Rattle.pm_planting.proofs.Rows.{IsRow, row_nil, row_bud, row_join}
 use Rattle.pm_planting.proofs.RootRows.{IsRootRow}

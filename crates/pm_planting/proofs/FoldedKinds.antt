@@ -2,10 +2,11 @@
 use Rattle.std.proofs.Common.{◌≡◌, ◌⊎◌, ℕ, ◌+◌, ◌==◌, inl, inr, List, [], ◌∷◌, ◌++◌, length, All, refl, ap, ap₂, sym, ◌∙◌, subst, arith, append_assoc, append-nil, eq-eqb, ne_eqb}
 use Rattle.std.proofs.lemmas.List.Elements.{All-head, All-tail}
 use Rattle.std.proofs.lemmas.List.Sums.{count_by-le-length}
-use Rattle.pm_trees.specs.declared.letters.TheConstants.{LEAF, BUD, OPEN, CLOSE}
+use Rattle.pm_trees.specs.declared.letters.TheConstants.{LEAF, BUD}
+use Rattle.pm_brackets.specs.declared.letters.TheConstants.{OPEN, CLOSE}
 use Rattle.pm_trees.specs.declared.patterns.TheConstants.{SLOT}
 use Rattle.pm_trees.specs.BudPattern.{IsPattern}
-use Rattle.pm_trees.proofs.Tally.{tally, tally_is, tally_yes, tally_no}
+use Rattle.pm_brackets.proofs.Tally.{tally, tally_is, tally_yes, tally_no}
 use Rattle.pm_planting.specs.steps.Folded.{front_of, behind, fold_letter, folded, AreKindsAlong}
 use Rattle.pm_planting.specs.steps.Folded.AreKindsAlong.{ended, a_leaf, a_node, no_object}
 use Rattle.pm_planting.specs.Kinds.{AreSides, HasKind, IsWordOfKinds, half_of}

@@ -9,7 +9,7 @@ use Rattle.pm_limits.specs.declared.TheConstants.{MAX_EDGES, MAX_DEGREE}
 use Rattle.pm_trees.specs.Word.{contour}
 use Rattle.pm_trees.specs.Blossoming.{IsBlossoming, leaves}
 use Rattle.pm_trees.specs.Degrees.{nodes_of}
-use Rattle.pm_trees.proofs.Tally.{tally_is}
+use Rattle.pm_brackets.proofs.Tally.{tally_is}
 use Rattle.pm_trees.proofs.Weights.{weight}
 use Rattle.pm_trees.proofs.Rings.{of_degree, of_degree_is, nodes_weight, bad, bad_is}
 use Rattle.pm_planting.specs.Kinds.{IsKind, IsWordOfKinds, half_of, halves_in}

@@ -1,11 +1,12 @@
 -- The writing of a tree's word: what lies ahead, and what it gives with the objects that are left.
 use Rattle.std.proofs.Common.{◌≡◌, ℕ, suc, ◌+◌, ◌<◌, ◌≤◌, ◌==◌, if◌then◌else◌, List, [], ◌∷◌, ◌++◌, inl, inr, get_or, length, reverse, drop, All, refl, sym, ◌∙◌, ap, subst, arith, append_assoc, append-nil, drop-cons, length-drop, length-append, eq-eqb, ne_eqb}
 use Rattle.std.proofs.lemmas.List.{reverse-append, reverse-reverse}
-use Rattle.pm_trees.specs.declared.letters.TheConstants.{LEAF, BUD, OPEN, CLOSE}
+use Rattle.pm_trees.specs.declared.letters.TheConstants.{LEAF, BUD}
+use Rattle.pm_brackets.specs.declared.letters.TheConstants.{OPEN, CLOSE}
 use Rattle.pm_trees.specs.declared.patterns.TheConstants.{SLOT}
 use Rattle.pm_trees.proofs.Ranked.{of_pattern}
 use Rattle.pm_trees.proofs.Ranking.{IsTwo}
-use Rattle.pm_trees.proofs.Tally.{tally, tally-nil, tally_yes, tally_no, tally-append}
+use Rattle.pm_brackets.proofs.Tally.{tally, tally-nil, tally_yes, tally_no, tally-append}
 use Rattle.pm_words.specs.Word.{IsGood}
 use Rattle.pm_planting.specs.Kinds.{AreSides, HasKind, IsKind, IsWordOfKinds, filled, half_of, letters_in}
 use Rattle.pm_planting.specs.Kinds.AreSides.{none, leaf, node}

@@ -4,11 +4,12 @@ use Rattle.std.specs.Prelude.{slice_index}
 use Rattle.std.proofs.lemmas.Bool.{cases_eq}
 use Rattle.std.proofs.lemmas.List.Elements.{All-head, All-tail}
 use Rattle.std.proofs.lemmas.List.{reverse-append, append-nil, drop_all}
-use Rattle.pm_trees.specs.declared.letters.TheConstants.{LEAF, BUD, OPEN, CLOSE}
+use Rattle.pm_trees.specs.declared.letters.TheConstants.{LEAF, BUD}
+use Rattle.pm_brackets.specs.declared.letters.TheConstants.{OPEN, CLOSE}
 use Rattle.pm_trees.specs.declared.patterns.TheConstants.{SLOT}
 use Rattle.pm_trees.specs.Blossoming.{IsBlossoming}
 use Rattle.pm_trees.specs.Word.{is_letter}
-use Rattle.pm_trees.proofs.Tally.{letter_cases, a_leaf as is_leaf, a_bud as is_bud, an_open as is_open, a_close as is_close}
+use Rattle.pm_trees.proofs.FourLetters.{letter_cases, a_leaf as is_leaf, a_bud as is_bud, an_open as is_open, a_close as is_close}
 use Rattle.pm_planting.specs.steps.Folded.{front_of, behind, folded, AreKindsAlong}
 use Rattle.pm_planting.specs.steps.Folded.AreKindsAlong.{ended, a_leaf, a_node, no_object}
 use Rattle.pm_planting.specs.Kinds.{HasKind, IsKind, IsWordOfKinds}

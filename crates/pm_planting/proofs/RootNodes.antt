@@ -1,6 +1,7 @@
 -- The root node of a tree: its kind, and the trees in the slots of its pattern.
 use Rattle.std.proofs.Common.{◌≡◌, ℕ, List, [], ◌∷◌, ◌++◌, length, refl, ap, ◌∙◌, append-nil, arith}
-use Rattle.pm_trees.specs.declared.letters.TheConstants.{LEAF, OPEN, CLOSE}
+use Rattle.pm_trees.specs.declared.letters.TheConstants.{LEAF}
+use Rattle.pm_brackets.specs.declared.letters.TheConstants.{OPEN, CLOSE}
 use Rattle.pm_planting.specs.Kinds.{AreSides, HasKind, IsWordOfKinds, filled, half_of}
 use Rattle.pm_planting.specs.Kinds.AreSides.{none, leaf, node}
 use Rattle.pm_planting.specs.declared.kind.Kind.{Kind}

@@ -1,11 +1,12 @@
 -- The row of a root node: the half degrees of all objects, and what they say of the tree.
 use Rattle.std.proofs.Common.{◌≡◌, ℕ, suc, ◌-◌, ◌*◌, ◌≤◌, List, [], ◌∷◌, ◌++◌, length, refl, ap, sym, subst, arith}
 use Rattle.pm_limits.specs.declared.TheConstants.{MAX_EDGES}
-use Rattle.pm_trees.specs.declared.letters.TheConstants.{LEAF, OPEN, CLOSE}
+use Rattle.pm_trees.specs.declared.letters.TheConstants.{LEAF}
+use Rattle.pm_brackets.specs.declared.letters.TheConstants.{OPEN, CLOSE}
 use Rattle.pm_trees.specs.Word.{contour}
 use Rattle.pm_trees.specs.Blossoming.{IsBlossoming, leaves}
-use Rattle.pm_trees.proofs.Tally.{tally, tally_is, tally_yes, tally_no}
-use Rattle.pm_trees.proofs.Dyck.{matched_from_dyck}
+use Rattle.pm_brackets.proofs.Tally.{tally, tally_is, tally_yes, tally_no}
+use Rattle.pm_brackets.proofs.Dyck.{matched_from_dyck}
 use Rattle.pm_trees.proofs.Weights.{weight}
 use Rattle.pm_trees.proofs.Rings.{contour_weight, bad, all_good}
 use Rattle.pm_planting.proofs.Rows.{IsRow, total, total-cons, row_value, row_inner, row_node}

@@ -4,13 +4,15 @@ use Rattle.std.proofs.Common.{◌≡◌, ℕ, zero, suc, ◌+◌, ◌*◌, List,
 use Rattle.std.specs.List.{sum_by}
 use Rattle.std.proofs.lemmas.List.Elements.{All-cons, All-append, All-nil}
 use Rattle.std.proofs.lemmas.List.Sums.{sum_by-cons, sum_by-append}
-use Rattle.pm_trees.specs.declared.letters.TheConstants.{LEAF, BUD, OPEN, CLOSE}
+use Rattle.pm_trees.specs.declared.letters.TheConstants.{LEAF, BUD}
+use Rattle.pm_brackets.specs.declared.letters.TheConstants.{OPEN, CLOSE}
 use Rattle.pm_trees.specs.Word.{is_letter}
 use Rattle.pm_trees.specs.Node.{own_letters}
-use Rattle.pm_trees.proofs.Tally.{tally, tally-nil, tally_yes, tally_no, tally-append, tally_is}
-use Rattle.pm_trees.proofs.Own.{IsOther, own_length, own_buds, own_length_is, own_buds_is, own_length-nil, own_buds-nil, own_length_other_here, own_buds_bud_here, own_buds_other_here}
-use Rattle.pm_trees.proofs.Dyck.{IsDyck, dyck_join, bracket_then}
-use Rattle.pm_trees.proofs.Dyck.IsDyck.{empty, letter, bracket}
+use Rattle.pm_brackets.proofs.Tally.{tally, tally-nil, tally_yes, tally_no, tally-append, tally_is}
+use Rattle.pm_brackets.specs.Word.{IsOther}
+use Rattle.pm_trees.proofs.Own.{own_length, own_buds, own_length_is, own_buds_is, own_length-nil, own_buds-nil, own_length_other_here, own_buds_bud_here, own_buds_other_here}
+use Rattle.pm_brackets.proofs.Dyck.{IsDyck, dyck_join, bracket_then}
+use Rattle.pm_brackets.proofs.Dyck.IsDyck.{empty, letter, bracket}
 use Rattle.pm_trees.proofs.Weights.{value, value_is, inner, inner-nil, inner_other, inner_of_bracket, own_bracket}
 
 -- the value at an object of this half degree: none at a leaf

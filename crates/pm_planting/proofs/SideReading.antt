@@ -3,12 +3,13 @@ use Rattle.std.proofs.Common.{◌≡◌, ◌⊎◌, ℕ, ◌+◌, ◌==◌, inl,
 use Rattle.std.proofs.lemmas.List.{map-append}
 use Rattle.std.proofs.lemmas.List.Sums.{count_by-le-length}
 use Rattle.std.proofs.lemmas.List.Elements.{All-nil, All-cons, All-head, All-tail}
-use Rattle.pm_trees.specs.declared.letters.TheConstants.{LEAF, BUD, OPEN, CLOSE}
+use Rattle.pm_trees.specs.declared.letters.TheConstants.{LEAF, BUD}
+use Rattle.pm_brackets.specs.declared.letters.TheConstants.{OPEN, CLOSE}
 use Rattle.pm_trees.specs.declared.patterns.TheConstants.{SLOT}
 use Rattle.pm_trees.specs.BudPattern.{IsPattern}
-use Rattle.pm_trees.proofs.Dyck.{IsDyck}
-use Rattle.pm_trees.proofs.Dyck.IsDyck.{empty, letter, bracket}
-use Rattle.pm_trees.proofs.Tally.{tally, tally_is, tally_yes, tally_no}
+use Rattle.pm_brackets.proofs.Dyck.{IsDyck}
+use Rattle.pm_brackets.proofs.Dyck.IsDyck.{empty, letter, bracket}
+use Rattle.pm_brackets.proofs.Tally.{tally, tally_is, tally_yes, tally_no}
 use Rattle.pm_planting.specs.Kinds.{AreSides, HasKind, IsWordOfKinds, half_of, halves_in}
 use Rattle.pm_planting.specs.Kinds.AreSides.{none, leaf, node}
 use Rattle.pm_planting.specs.Kinds.{filled}

@@ -1,18 +1,21 @@
 -- Each blossoming tree is a plane tree with bud patterns: its word is that of objects of some kinds.
 use Rattle.std.proofs.Common.{◌≡◌, ◌⊎◌, ℕ, suc, ◌+◌, ◌*◌, ◌<◌, inl, inr, List, [], ◌∷◌, ◌++◌, length, All, IsTrue, refl, ap, sym, ◌∙◌, subst, arith, append_assoc}
 use Rattle.std.proofs.lemmas.List.Elements.{All-nil, All-cons, All-append, All-head, All-tail}
-use Rattle.pm_trees.specs.declared.letters.TheConstants.{LEAF, BUD, OPEN, CLOSE}
+use Rattle.pm_trees.specs.declared.letters.TheConstants.{LEAF, BUD}
+use Rattle.pm_brackets.specs.declared.letters.TheConstants.{OPEN, CLOSE}
 use Rattle.pm_trees.specs.declared.patterns.TheConstants.{SLOT}
 use Rattle.pm_trees.specs.Word.{is_letter}
 use Rattle.pm_trees.specs.Node.{own_letters}
 use Rattle.pm_trees.specs.Blossoming.{IsBlossoming}
 use Rattle.pm_trees.specs.BudPattern.{IsPattern, HasRank}
-use Rattle.pm_trees.proofs.Dyck.{IsDyck, dyck_from_matched}
-use Rattle.pm_trees.proofs.Dyck.IsDyck.{empty, letter, bracket}
-use Rattle.pm_trees.proofs.Own.{IsOther, other_here}
+use Rattle.pm_brackets.proofs.Dyck.{IsDyck, dyck_from_matched}
+use Rattle.pm_brackets.proofs.Dyck.IsDyck.{empty, letter, bracket}
+use Rattle.pm_brackets.specs.Word.{IsOther}
+use Rattle.pm_trees.proofs.Own.{other_here}
 use Rattle.pm_trees.proofs.Ranked.{patterns_ranked}
 use Rattle.pm_trees.proofs.Rings.{bad, bad_is, none_bad, contour_weight}
-use Rattle.pm_trees.proofs.Tally.{tally, tally_is, tally-nil, tally_yes, tally_no, IsOneOf, letter_cases, a_leaf, a_bud, an_open, a_close}
+use Rattle.pm_brackets.proofs.Tally.{tally, tally_is, tally-nil, tally_yes, tally_no}
+use Rattle.pm_trees.proofs.FourLetters.{IsOneOf, letter_cases, a_leaf, a_bud, an_open, a_close}
 use Rattle.pm_trees.proofs.Weights.{value, value_is, inner, inner_other, inner_of_bracket, own_bracket}
 use Rattle.pm_planting.specs.Kinds.{AreSides, IsKind, IsWordOfKinds}
 use Rattle.pm_planting.specs.Kinds.AreSides.{none, leaf, node}

@@ -1,6 +1,7 @@
 -- Plane trees with a bud pattern at each node as blossoming trees (Schaeffer 1997), by the kinds of their objects in preorder.
 use Rattle.std.specs.Prelude.{◌≡◌, ℕ, ◌-◌, ◌*◌, ◌<◌, ◌==◌, ℤ, List, [], ◌∷◌, ◌++◌, length, map, if◌then◌else◌, ⊤}
-use Rattle.pm_trees.specs.declared.letters.TheConstants.{LEAF, BUD, OPEN, CLOSE}
+use Rattle.pm_trees.specs.declared.letters.TheConstants.{LEAF, BUD}
+use Rattle.pm_brackets.specs.declared.letters.TheConstants.{OPEN, CLOSE}
 use Rattle.pm_trees.specs.Binomial.{choose}
 use Rattle.pm_trees.specs.BudPattern.{HasRank, IsHalfDegree}
 use Rattle.pm_words.specs.Plane.{letter_of}

@@ -7,8 +7,9 @@ ghost use Rattle.pm_words.specs.Word.{IsGood};
 ghost use Rattle.pm_planting.specs.Kinds.{IsKind, IsWordOfKinds, letters_in};
 
 use crate::kind::Kind;
+use pm_brackets::{CLOSE, OPEN};
 use pm_limits::MAX_DEGREE;
-use pm_trees::{BUD, CLOSE, LEAF, OPEN, SLOT, Tree, pattern};
+use pm_trees::{BUD, LEAF, SLOT, Tree, pattern};
 use std::alloc::{AllocError, Global};
 
 /// The blossoming tree whose objects in preorder are of these kinds, planted above the first: a node has the bud pattern of

@@ -4,7 +4,8 @@ ghost use Rattle.pm_planting.specs.steps.Folded.{front_of, behind};
 ghost use Rattle.pm_planting.specs.Kinds.{HasKind, IsKind, IsWordOfKinds};
 
 use crate::kind::Kind;
-use pm_trees::{CLOSE, LEAF, OPEN, SLOT, Tree, rank};
+use pm_brackets::{CLOSE, OPEN};
+use pm_trees::{LEAF, SLOT, Tree, rank};
 use std::alloc::{AllocError, Global};
 
 /// The kinds of the tree's objects in preorder. The letters are read from the last one on. The entries that are read are

@@ -2,10 +2,12 @@
 use Rattle.std.proofs.Common.{◌≡◌, ℕ, suc, ◌-◌, ◌≤◌, ◌<◌, List, [], ◌∷◌, length, drop, slice_index, refl, ap, ◌∙◌, arith, drop-cons, length-drop, ◌==◌}
 use Rattle.std.proofs.lemmas.List.{drop_all}
 use Rattle.std.proofs.lemmas.List.Sums.{count_by-le-length}
-use Rattle.pm_trees.specs.declared.letters.TheConstants.{BUD, OPEN, CLOSE}
+use Rattle.pm_trees.specs.declared.letters.TheConstants.{BUD}
+use Rattle.pm_brackets.specs.declared.letters.TheConstants.{OPEN, CLOSE}
 use Rattle.pm_trees.specs.Node.{own_letters}
-use Rattle.pm_trees.proofs.Levels.{inside}
-use Rattle.pm_trees.proofs.Own.{IsOther, own_length, own_buds, own_length_is, own_buds_is, own_length-nil, own_buds-nil, own_length_other_here, own_length_other_above, own_length_open_here, own_length_open_above, own_length_close_here, own_length_close_above, own_buds_bud_here, own_buds_other_here, own_buds_other_above, own_buds_open_here, own_buds_open_above, own_buds_close_here, own_buds_close_above}
+use Rattle.pm_brackets.proofs.Levels.{inside}
+use Rattle.pm_brackets.specs.Word.{IsOther}
+use Rattle.pm_trees.proofs.Own.{own_length, own_buds, own_length_is, own_buds_is, own_length-nil, own_buds-nil, own_length_other_here, own_length_other_above, own_length_open_here, own_length_open_above, own_length_close_here, own_length_close_above, own_buds_bud_here, own_buds_other_here, own_buds_other_above, own_buds_open_here, own_buds_open_above, own_buds_close_here, own_buds_close_above}
 
 pub lengths_ahead : List ℕ → ℕ → ℕ → ℕ
 lengths_ahead word d i = own_length d (drop i word)

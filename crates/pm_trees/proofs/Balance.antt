@@ -1,13 +1,17 @@
 -- A blossoming tree has two more leaves than buds: count the letters of each level of each node.
 use Rattle.std.proofs.Common.{◌≡◌, ℕ, zero, suc, ◌+◌, ◌*◌, ◌≤◌, inl, inr, List, [], ◌∷◌, take, drop, slice_index, All, IsTrue, refl, ap₂, subst, sym, arith}
 use Rattle.std.proofs.lemmas.List.Elements.{All-head, All-tail}
-use Rattle.pm_trees.specs.declared.letters.TheConstants.{LEAF, BUD, OPEN, CLOSE}
-use Rattle.pm_trees.specs.Word.{count, contour, is_letter}
+use Rattle.pm_trees.specs.declared.letters.TheConstants.{LEAF, BUD}
+use Rattle.pm_brackets.specs.declared.letters.TheConstants.{OPEN, CLOSE}
+use Rattle.pm_brackets.specs.Word.{count}
+use Rattle.pm_trees.specs.Word.{contour, is_letter}
 use Rattle.pm_trees.specs.Node.{IsBudded}
 use Rattle.pm_trees.specs.Blossoming.{IsBlossoming}
-use Rattle.pm_trees.proofs.Tally.{tally, tally_is, tally-nil, tally_yes, tally_no, letter_cases}
-use Rattle.pm_trees.proofs.Tally.IsOneOf.{a_leaf, a_bud, an_open, a_close}
-use Rattle.pm_trees.proofs.Own.{IsOther, own_length, own_buds, own_length_is, own_buds_is, own_length-nil, own_buds-nil, own_length_other_here, own_length_other_above, own_length_open_here, own_length_open_above, own_length_close_here, own_length_close_above, own_buds_bud_here, own_buds_other_here, own_buds_other_above, own_buds_open_here, own_buds_open_above, own_buds_close_here, own_buds_close_above}
+use Rattle.pm_brackets.proofs.Tally.{tally, tally_is, tally-nil, tally_yes, tally_no}
+use Rattle.pm_trees.proofs.FourLetters.{letter_cases}
+use Rattle.pm_trees.proofs.FourLetters.IsOneOf.{a_leaf, a_bud, an_open, a_close}
+use Rattle.pm_brackets.specs.Word.{IsOther}
+use Rattle.pm_trees.proofs.Own.{own_length, own_buds, own_length_is, own_buds_is, own_length-nil, own_buds-nil, own_length_other_here, own_length_other_above, own_length_open_here, own_length_open_above, own_length_close_here, own_length_close_above, own_buds_bud_here, own_buds_other_here, own_buds_other_above, own_buds_open_here, own_buds_open_above, own_buds_close_here, own_buds_close_above}
 
 -- the sum of the first n values
 abbrev pub total : ℕ → (ℕ → ℕ) → ℕ

@@ -1,14 +1,10 @@
 -- The letters of a level, letter by letter: how many they are, and how many of them are buds.
 use Rattle.std.proofs.Common.{◌≡◌, ℕ, suc, ◌-◌, ◌==◌, List, [], ◌∷◌, length, refl, ap, ◌∙◌, arith, ne_eqb, false}
-use Rattle.pm_trees.specs.declared.letters.TheConstants.{BUD, OPEN, CLOSE}
-use Rattle.pm_trees.specs.Word.{count}
+use Rattle.pm_trees.specs.declared.letters.TheConstants.{BUD}
+use Rattle.pm_brackets.specs.declared.letters.TheConstants.{OPEN, CLOSE}
+use Rattle.pm_brackets.specs.Word.{IsOther, count}
 use Rattle.pm_trees.specs.Node.{own_letters}
-use Rattle.pm_trees.proofs.Tally.{tally, tally_yes, tally_no}
-
--- a letter that is no bracket
-pub record IsOther (x : ℕ) : Type 0 where
-  pub not_open : x ≡ OPEN → ⊥
-  pub not_close : x ≡ CLOSE → ⊥
+use Rattle.pm_brackets.proofs.Tally.{tally, tally_yes, tally_no}
 
 suc_is_some : (d : ℕ) → (suc d == 0) ≡ false
 suc_is_some d = ne_eqb (suc d) 0 (λ h. omega arith)

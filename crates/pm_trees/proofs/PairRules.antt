@@ -4,7 +4,7 @@ use Rattle.std.proofs.Math.Nat.{mul-le-mul}
 use Rattle.std.proofs.lemmas.Bool.{cases_lt, cases_eq}
 use Rattle.std.proofs.lemmas.List.Sums.{sum_by-cons, sum_by_more}
 use Rattle.pm_limits.specs.declared.TheConstants.{MAX_DEGREE}
-use Rattle.pm_trees.specs.First.{IsFirst}
+use Rattle.pm_brackets.specs.First.{IsFirst}
 use Rattle.pm_trees.specs.Pairs.{pair_at, degree_before, IsRight, IsRightPair, BreaksPair, ArePairs, degree_sum}
 use Rattle.pm_trees.specs.Pairs.BreaksPair.{empty, wrong}
 

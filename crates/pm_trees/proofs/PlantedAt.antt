@@ -3,16 +3,18 @@
 use Rattle.std.proofs.Common.{◌≡◌, ℕ, ◌+◌, ◌%◌, ◌<◌, List, inl, inr, length, take, refl, sym, ◌∙◌, ap, subst, arith}
 use Rattle.std.proofs.lemmas.Bool.{cases_eq}
 use Rattle.pm_trees.specs.declared.letters.TheConstants.{LEAF}
-use Rattle.pm_trees.specs.Word.{contour, count}
+use Rattle.pm_trees.specs.Word.{contour}
+use Rattle.pm_brackets.specs.Word.{count}
 use Rattle.pm_trees.specs.Blossoming.{IsBlossoming, leaves}
 use Rattle.pm_trees.specs.Leaves.{IsLeafAt}
 use Rattle.pm_trees.specs.PlantedAt.{AreTwo, AreTwoMarks, IsChosen, IsPlantedAt, first, second}
-use Rattle.pm_trees.specs.Replanted.{IsReplanted, place_from}
+use Rattle.pm_trees.specs.Replanted.{IsReplanted}
+use Rattle.pm_brackets.specs.Ring.{place_from}
 use Rattle.pm_trees.specs.Replanting.{IsAlike, leaf_after}
-use Rattle.pm_trees.proofs.LeafCounts.{plant_is_first}
+use Rattle.pm_trees.proofs.LeafTurns.{plant_is_first}
 use Rattle.pm_trees.proofs.LeafTurns.{leaf_few, leaf_within, one_leaf}
 use Rattle.pm_trees.proofs.Replants.{leaf_back, leaves_turned, replanted_alike, replanted_unique, replanting_undone}
-use Rattle.pm_trees.proofs.RingPlaces.{mod_stays, steps_are, steps_lead, steps_to, steps_under}
+use Rattle.pm_brackets.proofs.RingPlaces.{mod_stays, steps_are, steps_lead, steps_to, steps_under}
 
 pub chosen_is : (chosen : ℕ → Type 0) (number place : ℕ) → IsChosen chosen number place → chosen place
 chosen_is chosen _ place (first _ is least) = is

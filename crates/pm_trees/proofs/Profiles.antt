@@ -3,7 +3,8 @@ use Rattle.std.proofs.Common.{◌≡◌, ℕ, zero, suc, ◌+◌, ◌*◌, ◌�
 use Rattle.std.proofs.lemmas.Bool.{cases_eq, cases_lt, cases_order, lt-ltb, le-ltb}
 use Rattle.std.proofs.Math.Nat.{mul-add}
 use Rattle.pm_limits.specs.declared.TheConstants.{MAX_EDGES}
-use Rattle.pm_trees.specs.declared.letters.TheConstants.{BUD, OPEN, CLOSE}
+use Rattle.pm_trees.specs.declared.letters.TheConstants.{LEAF, BUD}
+use Rattle.pm_brackets.specs.declared.letters.TheConstants.{OPEN, CLOSE}
 use Rattle.pm_trees.specs.Word.{contour}
 use Rattle.pm_trees.specs.Node.{own_letters}
 use Rattle.pm_trees.specs.Blossoming.{IsBlossoming}
@@ -12,12 +13,14 @@ use Rattle.pm_trees.specs.Degrees.{AreListed, IsProfileOf, nodes_before, nodes_o
 use Rattle.pm_trees.specs.steps.Counts.{AreCounts}
 use Rattle.pm_trees.specs.Replanting.{ProfileIsKept, ProfileIsUnique}
 use Rattle.pm_trees.proofs.CountedPairs.{AreCounted, sum_bounded, one_counted}
-use Rattle.pm_trees.proofs.Tally.{tally}
+use Rattle.pm_brackets.proofs.Tally.{tally}
 use Rattle.pm_trees.proofs.Own.{own_length, other_here}
-use Rattle.pm_trees.proofs.Dyck.{IsDyck}
-use Rattle.pm_trees.proofs.Dyck.IsDyck.{empty, letter, bracket}
+use Rattle.pm_brackets.proofs.Dyck.{IsDyck}
+use Rattle.pm_brackets.proofs.Dyck.IsDyck.{empty, letter, bracket}
 use Rattle.pm_trees.proofs.Weights.{value, value_is, inner, inner-nil, inner_open, inner_other, inner_of_bracket, own_bracket, weight, weight_is}
-use Rattle.pm_trees.proofs.Rings.{of_degree, of_degree_is, nodes_weight, ring_dyck}
+use Rattle.pm_trees.proofs.Rings.{of_degree, of_degree_is, nodes_weight}
+use Rattle.pm_brackets.proofs.Rings.{ring_dyck}
+use Rattle.pm_trees.proofs.FourLetters.{leaf_is_other}
 use Rattle.pm_trees.proofs.Tables.{come_some, come_start, degree_within, has_some, node_from}
 
 -- the degrees of all nodes are as many as the places
@@ -179,7 +182,7 @@ total-le : (word : List ℕ) (d : ℕ) → IsBlossoming word → total word d �
 unfolding total
 total-le word d t =
     let a = weight-le (below d) plain (below-le d) (contour word) in
-    let b = plain_weight (contour word) (ring_dyck word t.in_order) in
+    let b = plain_weight (contour word) (ring_dyck LEAF leaf_is_other word t.in_order.matched) in
     omega (arith, a, b)
 
 few_edges : (word : List ℕ) (pairs : List (ℕ × ℕ)) → IsBlossoming word → AreCounted (nodes_of word) pairs → edges_of pairs ≤ MAX_EDGES

@@ -6,7 +6,7 @@ use Rattle.pm_trees.specs.declared.letters.TheConstants.{BUD}
 use Rattle.pm_trees.specs.declared.patterns.TheConstants.{SLOT}
 use Rattle.pm_trees.specs.Binomial.{choose}
 use Rattle.pm_trees.specs.BudPattern.{IsPattern, HasRank, PatternsAreRanked}
-use Rattle.pm_trees.proofs.Tally.{tally, tally_is, tally-nil, tally_yes, tally_no}
+use Rattle.pm_brackets.proofs.Tally.{tally, tally_is, tally-nil, tally_yes, tally_no}
 use Rattle.pm_trees.proofs.Ranking.{IsTwo, IsOf, word_of, number_of, number_below, word_of_is, number_of_word, word_of_number, number_rises, number_orders}
 
 pub two_from_all : (xs : List ℕ) → All (λ x. (x ≡ BUD) ⊎ (x ≡ SLOT)) xs → IsTwo xs

@@ -7,7 +7,7 @@ use Rattle.pm_trees.specs.declared.patterns.TheConstants.{SLOT}
 use Rattle.pm_trees.specs.Binomial.{choose}
 use Rattle.pm_trees.specs.BudPattern.{IsBefore}
 use Rattle.pm_trees.proofs.Binomials.{choose_none, choose_past, pascal, choose_more}
-use Rattle.pm_trees.proofs.Tally.{tally, tally-nil, tally_yes, tally_no}
+use Rattle.pm_brackets.proofs.Tally.{tally, tally-nil, tally_yes, tally_no}
 
 -- each letter is a bud or a slot
 abbrev pub IsTwo : List ℕ → Type 0

@@ -1,92 +1,24 @@
--- A ring of letters read from any of its places on: what of the tree stays.
-use Rattle.std.proofs.Common.{◌≡◌, ℕ, zero, suc, ◌+◌, ◌-◌, ◌*◌, ◌%◌, ◌≤◌, ◌<◌, ◌==◌, ◌&&◌, ◌||◌, cond, Bool, true, inl, inr, List, [], ◌∷◌, ◌++◌, length, drop, slice_index, All, IsTrue, refl, ap, ap₂, sym, ◌∙◌, subst, arith, drop-cons, eq-eqb, ne_eqb}
+-- Sums over the nodes of a tree: they stay when its ring is read from another place on, and tell whether its nodes are right.
+use Rattle.std.proofs.Common.{◌≡◌, ℕ, zero, suc, ◌+◌, ◌-◌, ◌*◌, ◌%◌, ◌≤◌, ◌==◌, ◌&&◌, ◌||◌, cond, Bool, true, inl, inr, List, [], ◌∷◌, length, drop, slice_index, refl, ap, ap₂, sym, ◌∙◌, subst, arith, drop-cons, eq-eqb, ne_eqb}
 use Rattle.std.proofs.lemmas.Bool.{cases_eq}
 use Rattle.std.proofs.lemmas.List.{drop_all}
-use Rattle.std.proofs.lemmas.List.Elements.{All-cons, All-tail, All-append, All-nil}
 use Rattle.pm_limits.specs.declared.TheConstants.{MAX_DEGREE}
-use Rattle.pm_trees.specs.declared.letters.TheConstants.{LEAF, BUD, OPEN, CLOSE}
-use Rattle.pm_trees.specs.Word.{contour, is_letter, IsInOrder}
+use Rattle.pm_trees.specs.declared.letters.TheConstants.{LEAF, BUD}
+use Rattle.pm_brackets.specs.declared.letters.TheConstants.{OPEN}
+use Rattle.pm_trees.specs.Word.{contour}
 use Rattle.pm_trees.specs.Node.{IsNode, IsDegree, IsBudded, own_letters, degree}
 use Rattle.pm_trees.specs.Blossoming.{IsBlossoming}
 use Rattle.pm_trees.specs.Degrees.{has_degree, nodes_before, nodes_of}
-use Rattle.pm_trees.specs.Replanted.{IsTurned}
-use Rattle.pm_trees.proofs.Tally.{tally, tally_is, tally_no, tally-append}
-use Rattle.pm_trees.proofs.Dyck.{IsDyck, dyck_join, dyck_from_matched}
-use Rattle.pm_trees.proofs.Dyck.IsDyck.{empty, letter, bracket}
+use Rattle.pm_brackets.proofs.Tally.{tally, tally_is, tally_no}
 use Rattle.pm_trees.proofs.Weights.{value, value_is, inner, inner-nil, inner_open, inner_other, weight, weight_is, weight_letter, weight_bracket}
-use Rattle.pm_trees.proofs.Turns.{turned_letter, turned_bracket, turned_none, turned_more}
+use Rattle.pm_brackets.proofs.Rings.{StaysTurned}
 
--- the ring read from a place on, with the same letters but for the brackets that are turned, and the same nodes
-pub record HasTurned (xs : List ℕ) (start : ℕ) : Type 0 where
-  pub ring : List ℕ
-  pub dyck : IsDyck ring
-  pub turned : IsTurned xs start ring
-  pub letters : All (λ x. IsTrue (is_letter x)) ring
-  pub same : (z : ℕ) → tally z ring ≡ tally z xs
-  pub weights : (f : ℕ → ℕ → ℕ) → weight f ring ≡ weight f xs
-
-All-rest : (x : ℕ) (xs : List ℕ) → All (λ y. IsTrue (is_letter y)) (x ∷ xs) → All (λ y. IsTrue (is_letter y)) xs
-All-rest x xs a = All-tail (λ y. IsTrue (is_letter y)) x xs a
-
-parts : (xs ys : List ℕ) → All (λ y. IsTrue (is_letter y)) (xs ++ ys) → All (λ y. IsTrue (is_letter y)) xs × All (λ y. IsTrue (is_letter y)) ys
-parts [] ys a = (All-nil (λ y. IsTrue (is_letter y)), a)
-parts (x ∷ xs) ys a =
-    let h = parts xs ys (All-rest x (xs ++ ys) a) in
-    (All-cons (λ y. IsTrue (is_letter y)) x xs (a 0 0 (omega arith)) h.0, h.1)
-
-single : (x : ℕ) → IsTrue (is_letter x) → All (λ y. IsTrue (is_letter y)) (x ∷ [])
-single x h = All-cons (λ y. IsTrue (is_letter y)) x [] h (All-nil (λ y. IsTrue (is_letter y)))
-
-turn_once : (xs : List ℕ) → IsDyck xs → All (λ x. IsTrue (is_letter x)) xs → 0 < length xs → HasTurned xs 1
-turn_once _ empty all some = absurd (omega arith)
-turn_once _ (letter x xs o a) all some = record {
-  ring = xs ++ x ∷ [];
-  dyck = dyck_join xs (x ∷ []) a (letter x [] o empty);
-  turned = turned_letter x xs o;
-  letters = All-append (λ y. IsTrue (is_letter y)) xs (x ∷ []) (All-rest x xs all) (single x (all 0 0 (omega arith)));
-  same = λ z. let a = tally-append z xs (x ∷ []) in let b = tally-append z (x ∷ []) xs in omega (arith, a, b);
-  weights = λ f. weight_letter f x xs o a;
+-- the sums over the nodes stay when the first letter of the ring comes last
+pub weights_stay : (total : (ℕ → ℕ → ℕ) → ℕ) → StaysTurned (λ ring. (f : ℕ → ℕ → ℕ) → weight f ring ≡ total f)
+weights_stay total = record {
+  letter_last = λ x xs o a h f. weight_letter f x xs o a ∙ h f;
+  bracket_last = λ xs ys a b h f. weight_bracket f xs ys a b ∙ h f;
 }
-turn_once _ (bracket xs ys a b) all some =
-    let h = parts xs (CLOSE ∷ ys) (All-rest OPEN (xs ++ CLOSE ∷ ys) all) in
-    record {
-      ring = xs ++ OPEN ∷ (ys ++ CLOSE ∷ []);
-      dyck = dyck_join xs (OPEN ∷ (ys ++ CLOSE ∷ [])) a (bracket ys [] b empty);
-      turned = turned_bracket xs ys a b;
-      letters = All-append (λ y. IsTrue (is_letter y)) xs (OPEN ∷ (ys ++ CLOSE ∷ [])) h.0
-          (All-cons (λ y. IsTrue (is_letter y)) OPEN (ys ++ CLOSE ∷ []) refl
-          (All-append (λ y. IsTrue (is_letter y)) ys (CLOSE ∷ []) (All-rest CLOSE ys h.1) (single CLOSE refl)));
-      same = λ z.
-          let c = tally-append z xs (OPEN ∷ (ys ++ CLOSE ∷ [])) in
-          let d = tally-append z (OPEN ∷ []) (ys ++ CLOSE ∷ []) in
-          let e = tally-append z ys (CLOSE ∷ []) in
-          let f = tally-append z (OPEN ∷ []) (xs ++ CLOSE ∷ ys) in
-          let g = tally-append z xs (CLOSE ∷ ys) in
-          let i = tally-append z (CLOSE ∷ []) ys in
-          omega (arith, c, d, e, f, g, i);
-      weights = λ f. weight_bracket f xs ys a b;
-    }
-
-pub turn : (xs : List ℕ) (start : ℕ) → IsDyck xs → All (λ x. IsTrue (is_letter x)) xs → 0 < length xs → HasTurned xs start
-turn xs zero d all some = record {
-  ring = xs;
-  dyck = d;
-  turned = turned_none xs;
-  letters = all;
-  same = λ z. refl;
-  weights = λ f. refl;
-}
-turn xs (suc start) d all some =
-    let a = turn xs start d all some in
-    let b = turn_once a.ring a.dyck a.letters (let l = a.turned.as_long in omega arith) in
-    record {
-      ring = b.ring;
-      dyck = b.dyck;
-      turned = turned_more xs a.ring b.ring start a.turned b.turned;
-      letters = b.letters;
-      same = λ z. b.same z ∙ a.same z;
-      weights = λ f. b.weights f ∙ a.weights f;
-    }
 
 -- nothing at any node
 inner_none : (f : ℕ → ℕ → ℕ) (xs : List ℕ) → ((k : ℕ) → slice_index xs k ≡ OPEN → value f 1 (drop (suc k) xs) ≡ 0) → inner f xs ≡ 0
@@ -231,7 +163,3 @@ nodes_weight word d =
     let c = ap (inner (of_degree d)) (drop_all (length word) word (omega arith)) in
     let e = inner-nil (of_degree d) in
     omega (arith, a, b, c, e)
-
--- the contour of a tree, as a ring
-pub ring_dyck : (word : List ℕ) → IsInOrder word → IsDyck (contour word)
-ring_dyck word o = letter LEAF word (record { not_open = λ e. omega arith; not_close = λ e. omega arith }) (dyck_from_matched word o.matched)

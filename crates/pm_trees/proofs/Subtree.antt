@@ -3,13 +3,16 @@ use Rattle.std.proofs.Common.{◌≡◌, ℕ, zero, suc, ◌+◌, ◌-◌, ◌*�
 use Rattle.std.proofs.lemmas.Bool.{cases_eq}
 use Rattle.std.proofs.lemmas.List.{drop-append-le}
 use Rattle.std.proofs.lemmas.List.Elements.{All-take, All-drop}
-use Rattle.pm_trees.specs.declared.letters.TheConstants.{LEAF, BUD, OPEN, CLOSE}
-use Rattle.pm_trees.specs.Word.{count, contour, between, is_letter, IsBracketPair, IsMatched}
+use Rattle.pm_trees.specs.declared.letters.TheConstants.{LEAF, BUD}
+use Rattle.pm_brackets.specs.declared.letters.TheConstants.{OPEN, CLOSE}
+use Rattle.pm_brackets.specs.Word.{count, between, IsBracketPair, IsMatched}
+use Rattle.pm_trees.specs.Word.{contour, is_letter}
 use Rattle.pm_trees.specs.Node.{IsBudded, own_letters}
 use Rattle.pm_trees.specs.Blossoming.{IsBlossoming}
-use Rattle.pm_trees.proofs.Levels.{inside}
-use Rattle.pm_trees.proofs.Tally.{tally, tally_is, tally-nil, tally_yes, tally_no, tally-append}
-use Rattle.pm_trees.proofs.Own.{IsOther, other_here, other_above, open_above, close_above, own_length, own_buds, own_length_is, own_buds_is}
+use Rattle.pm_brackets.proofs.Levels.{inside}
+use Rattle.pm_brackets.proofs.Tally.{tally, tally_is, tally-nil, tally_yes, tally_no, tally-append}
+use Rattle.pm_brackets.specs.Word.{IsOther}
+use Rattle.pm_trees.proofs.Own.{other_here, other_above, open_above, close_above, own_length, own_buds, own_length_is, own_buds_is}
 use Rattle.pm_trees.proofs.Balance.{Rest, balance}
 
 -- a text with as many `)` as `(` or more, from a level on, has no more letters of that level behind the next `)`

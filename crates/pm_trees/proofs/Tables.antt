@@ -4,15 +4,18 @@ use Rattle.std.proofs.Common.{◌≡◌, ℕ, zero, suc, ◌+◌, ◌≤◌, ◌
 use Rattle.std.proofs.lemmas.Bool.{cases_eq, cases_lt, cases_Bool, and_parts, or_cases}
 use Rattle.std.proofs.lemmas.List.{drop_all, reverse-append, nil_from_length, length_push, get_or_read, get_or-set_same, get_or-set_other, get_or_past, length-set, length-replicate, get_or-replicate}
 use Rattle.pm_limits.specs.declared.TheConstants.{MAX_DEGREE}
-use Rattle.pm_trees.specs.declared.letters.TheConstants.{BUD, OPEN, CLOSE}
-use Rattle.pm_trees.specs.Word.{count, contour, IsMatched}
+use Rattle.pm_trees.specs.declared.letters.TheConstants.{BUD}
+use Rattle.pm_brackets.specs.declared.letters.TheConstants.{OPEN, CLOSE}
+use Rattle.pm_brackets.specs.Word.{count, IsMatched}
+use Rattle.pm_trees.specs.Word.{contour}
 use Rattle.pm_trees.specs.Node.{IsNode, IsDegree, degree, own_letters}
 use Rattle.pm_trees.specs.Blossoming.{IsBlossoming}
 use Rattle.pm_trees.specs.Degrees.{has_degree, nodes_before, nodes_of}
 use Rattle.pm_trees.specs.steps.Counts.{AreCounts}
-use Rattle.pm_trees.proofs.Tally.{tally, tally_is}
-use Rattle.pm_trees.proofs.Own.{IsOther, own_length, own_length_is, own_length-nil, own_length_other_here, own_length_other_above, own_length_open_here, own_length_open_above, own_length_close_here, own_length_close_above}
-use Rattle.pm_trees.proofs.Levels.{seen, seen_is, seen_none, seen_yes, seen_no, inside}
+use Rattle.pm_brackets.proofs.Tally.{tally, tally_is}
+use Rattle.pm_brackets.specs.Word.{IsOther}
+use Rattle.pm_trees.proofs.Own.{own_length, own_length_is, own_length-nil, own_length_other_here, own_length_other_above, own_length_open_here, own_length_open_above, own_length_close_here, own_length_close_above}
+use Rattle.pm_brackets.proofs.Levels.{seen, seen_is, seen_none, seen_yes, seen_no, inside}
 use Rattle.pm_trees.proofs.Weights.{value, value_is, inner, inner-nil, inner_open, inner_other}
 use Rattle.pm_trees.proofs.Rings.{of_degree, of_degree_is, contour_weight, nodes_weight}
 

@@ -1,11 +1,13 @@
 -- The letters of a tree and its plant make edges in twos.
 use Rattle.std.proofs.Common.{◌≡◌, ℕ, suc, ◌+◌, ◌*◌, List, [], ◌∷◌, length, All, IsTrue, arith}
 use Rattle.std.proofs.lemmas.List.Elements.{All-head, All-tail}
-use Rattle.pm_trees.specs.declared.letters.TheConstants.{LEAF, BUD, OPEN, CLOSE}
+use Rattle.pm_trees.specs.declared.letters.TheConstants.{LEAF, BUD}
+use Rattle.pm_brackets.specs.declared.letters.TheConstants.{OPEN, CLOSE}
 use Rattle.pm_trees.specs.Word.{contour, is_letter}
 use Rattle.pm_trees.specs.Blossoming.{IsBlossoming, edges}
-use Rattle.pm_trees.proofs.Tally.{tally, tally_is, tally-nil, tally_yes, tally_no, letter_cases}
-use Rattle.pm_trees.proofs.Tally.IsOneOf.{a_leaf, a_bud, an_open, a_close}
+use Rattle.pm_brackets.proofs.Tally.{tally, tally_is, tally-nil, tally_yes, tally_no}
+use Rattle.pm_trees.proofs.FourLetters.{letter_cases}
+use Rattle.pm_trees.proofs.FourLetters.IsOneOf.{a_leaf, a_bud, an_open, a_close}
 use Rattle.pm_trees.proofs.Balance.{two_more_leaves}
 
 -- each letter is counted once

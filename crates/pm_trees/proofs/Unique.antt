@@ -3,16 +3,13 @@ use Rattle.std.proofs.Common.{◌≡◌, ℕ, List, Result, Ok, Err, refl, ap, s
 use Rattle.pm_trees.specs.declared.tree.Tree.{Tree}
 use Rattle.pm_trees.specs.declared.tree.TreeRefusal.{TreeRefusal}
 use Rattle.pm_trees.specs.declared.tree.TreeRefusal.TheVariants.{Memory, Text, TooMany, Degree, Buds}
-use Rattle.pm_trees.specs.First.{IsFirst}
+use Rattle.pm_brackets.specs.First.{IsFirst}
+use Rattle.pm_brackets.proofs.Least.{first_same}
 use Rattle.pm_trees.specs.Word.{IsFault, contour}
 use Rattle.pm_trees.specs.Node.{BreaksDegree, BreaksBuds}
 use Rattle.pm_trees.specs.Blossoming.{IsBlossoming}
 use Rattle.pm_trees.specs.Reading.{IsAnswer, IsTooLong, HasBadDegree, HasBadBuds, HasOneAnswer}
-use Rattle.pm_trees.proofs.Stack.{no_fault}
-
--- there is one least place with a property
-pub first_same : (P : ℕ → Type 0) (a b : ℕ) → IsFirst P a → IsFirst P b → a ≡ b
-first_same P a b p q = let e = p.least b q.here in let f = q.least a p.here in omega arith
+use Rattle.pm_trees.proofs.FourLetters.{no_fault}
 
 -- the answers in the order of the rules, each with the rules that hold before it
 ok_only : (word tree : List ℕ) (second : Result Tree TreeRefusal) → tree ≡ word → IsBlossoming word → IsAnswer word second → (second ≡ Err Memory → ⊥) → Ok tree ≡ second

@@ -3,13 +3,13 @@ use Rattle.std.proofs.Common.{◌≡◌, ℕ, zero, suc, ◌<◌, List, slice_in
 use Rattle.pm_trees.specs.declared.profile.Profile.{Profile}
 use Rattle.pm_trees.specs.declared.profile.ProfileRefusal.{ProfileRefusal}
 use Rattle.pm_trees.specs.declared.profile.ProfileRefusal.TheVariants.{Memory, Pair, TooMany}
-use Rattle.pm_trees.specs.First.{IsFirst}
+use Rattle.pm_brackets.specs.First.{IsFirst}
 use Rattle.pm_trees.specs.Degrees.{AreListed}
 use Rattle.pm_trees.specs.Pairs.{ArePairs, BreaksPair, IsProfile, pair_at}
 use Rattle.pm_trees.specs.Pairs.BreaksPair.{empty, wrong}
 use Rattle.pm_trees.specs.Profile.{HasTooMany, IsProfileAnswer, IsTableAnswer, PairsHaveOneAnswer, TableHasOneAnswer}
 use Rattle.pm_trees.proofs.CountedPairs.{AreCounted, one_counted}
-use Rattle.pm_trees.proofs.Unique.{first_same}
+use Rattle.pm_brackets.proofs.Least.{first_same}
 
 -- pairs that are right break no rule
 no_break : (pairs : List (ℕ × ℕ)) (place : ℕ) → ArePairs pairs → BreaksPair pairs place → ⊥

@@ -2,20 +2,23 @@
 use Rattle.std.proofs.Common.{◌≡◌, ℕ, suc, ◌+◌, ◌*◌, ◌≤◌, ◌<◌, ◌⊎◌, ◌==◌, inl, inr, if◌then◌else◌, cond, List, [], ◌∷◌, ◌++◌, length, take, drop, reverse, slice_index, Option, Some, None, MatchOption, option_to_list, refl, ap, ◌∙◌, sym, subst, arith, eq-eqb, ne_eqb, take_all, ◌%◌}
 use Rattle.std.proofs.lemmas.Bool.{cases_lt, cases_eq}
 use Rattle.std.proofs.lemmas.List.{nil_from_length, reverse-append, length-reverse}
-use Rattle.pm_trees.specs.declared.letters.TheConstants.{BUD, OPEN, CLOSE}
+use Rattle.pm_trees.specs.declared.letters.TheConstants.{BUD}
+use Rattle.pm_brackets.specs.declared.letters.TheConstants.{OPEN, CLOSE}
 use Rattle.pm_limits.specs.declared.TheConstants.{MAX_DEGREE}
 use Rattle.pm_trees.specs.declared.nodes.OpenNode.{OpenNode}
 use Rattle.pm_trees.specs.declared.nodes.NodeFaults.{NodeFaults}
-use Rattle.pm_trees.specs.First.{IsFirst}
-use Rattle.pm_trees.specs.steps.Noted.{IsNoted}
-use Rattle.pm_trees.specs.Word.{count, contour, IsMatched, IsInOrder}
+use Rattle.pm_brackets.specs.First.{IsFirst}
+use Rattle.pm_brackets.specs.Noted.{IsNoted}
+use Rattle.pm_brackets.specs.Word.{count, IsMatched}
+use Rattle.pm_trees.specs.Word.{contour, IsInOrder}
 use Rattle.pm_trees.specs.Node.{IsNode, IsDegree, BreaksDegree, BreaksBuds, degree, buds}
 use Rattle.pm_trees.specs.Blossoming.{HasBuds, HasDegrees}
-use Rattle.pm_trees.proofs.Tally.{tally_is}
-use Rattle.pm_trees.proofs.Own.{IsOther, own_buds_is}
-use Rattle.pm_trees.proofs.Levels.{seen, seen_is, seen_none, seen_yes, seen_no, inside}
+use Rattle.pm_brackets.proofs.Tally.{tally_is}
+use Rattle.pm_brackets.specs.Word.{IsOther}
+use Rattle.pm_trees.proofs.Own.{own_buds_is}
+use Rattle.pm_brackets.proofs.Levels.{seen, seen_is, seen_none, seen_yes, seen_no, inside}
 use Rattle.pm_trees.proofs.Ahead.{lengths_ahead, buds_ahead, lengths_ahead_is, buds_ahead_is, lengths_other_here, lengths_other_above, lengths_open_here, lengths_open_above, lengths_close_here, lengths_close_above, lengths_at_end, buds_bud_here, buds_other_here, buds_other_above, buds_open_here, buds_open_above, buds_close_here, buds_close_above, buds_at_end, buds-le-lengths, lengths-le}
-use Rattle.pm_trees.proofs.Least.{IsLeastOf, least_none, least_fewer, least_noted, first_of_all}
+use Rattle.pm_brackets.proofs.Least.{IsLeastOf, least_none, least_fewer, least_noted, first_of_all}
 
 -- the entries and buds that were read at a node, and those to come on its level, are all that it has
 pub record IsCounted (word : List ℕ) (node : OpenNode) (d i : ℕ) : Type 0 where

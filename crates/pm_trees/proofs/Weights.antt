@@ -2,12 +2,14 @@
 -- each letter is an entry.
 use Rattle.std.proofs.Common.{◌≡◌, ℕ, suc, ◌+◌, ◌==◌, cond, List, [], ◌∷◌, ◌++◌, length, refl, ap, ap₂, sym, ◌∙◌, arith, eq-eqb, ne_eqb, length-append}
 use Rattle.std.proofs.lemmas.List.{append-nil}
-use Rattle.pm_trees.specs.declared.letters.TheConstants.{BUD, OPEN, CLOSE}
+use Rattle.pm_trees.specs.declared.letters.TheConstants.{BUD}
+use Rattle.pm_brackets.specs.declared.letters.TheConstants.{OPEN, CLOSE}
 use Rattle.pm_trees.specs.Node.{own_letters}
-use Rattle.pm_trees.proofs.Tally.{tally, tally-nil, tally_no, tally-append}
-use Rattle.pm_trees.proofs.Own.{IsOther, other_here, other_above, open_above, close_above}
-use Rattle.pm_trees.proofs.Dyck.{IsDyck, bracket_then}
-use Rattle.pm_trees.proofs.Dyck.IsDyck.{empty, letter, bracket}
+use Rattle.pm_brackets.proofs.Tally.{tally, tally-nil, tally_no, tally-append}
+use Rattle.pm_brackets.specs.Word.{IsOther}
+use Rattle.pm_trees.proofs.Own.{other_here, other_above, open_above, close_above}
+use Rattle.pm_brackets.proofs.Dyck.{IsDyck, bracket_then}
+use Rattle.pm_brackets.proofs.Dyck.IsDyck.{empty, letter, bracket}
 
 -- what stands in brackets is no letter of the level around them
 own_skip : (d : ℕ) (xs zs : List ℕ) → IsDyck xs → own_letters (suc d) (xs ++ zs) ≡ own_letters (suc d) zs

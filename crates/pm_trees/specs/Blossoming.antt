@@ -2,9 +2,11 @@
 -- has i-1 buds.
 use Rattle.std.specs.Prelude.{ℕ, suc, ◌*◌, ◌/◌, ◌<◌, List, length}
 use Rattle.pm_limits.specs.declared.TheConstants.{MAX_EDGES}
-use Rattle.pm_trees.specs.declared.letters.TheConstants.{LEAF, OPEN}
+use Rattle.pm_trees.specs.declared.letters.TheConstants.{LEAF}
+use Rattle.pm_brackets.specs.declared.letters.TheConstants.{OPEN}
 use Rattle.pm_trees.specs.Node.{IsNode, IsDegree, IsBudded, degree}
-use Rattle.pm_trees.specs.Word.{IsInOrder, contour, count}
+use Rattle.pm_trees.specs.Word.{IsInOrder, contour}
+use Rattle.pm_brackets.specs.Word.{count}
 
 -- a word whose contour has as many places as the darts of a map within the limit
 abbrev pub IsShort : List ℕ → Type 0

@@ -5,7 +5,7 @@ use Rattle.pm_limits.specs.declared.TheConstants.{MAX_DEGREE}
 use Rattle.pm_trees.specs.declared.letters.TheConstants.{BUD}
 use Rattle.pm_trees.specs.declared.patterns.TheConstants.{SLOT}
 use Rattle.pm_trees.specs.Binomial.{choose}
-use Rattle.pm_trees.specs.Word.{count}
+use Rattle.pm_brackets.specs.Word.{count}
 
 -- half of a degree that a node may have
 pub record IsHalfDegree (half : ℕ) : Type 0 where

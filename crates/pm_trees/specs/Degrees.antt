@@ -1,6 +1,6 @@
 -- How many nodes of a tree have which degree, and the profile that says so.
 use Rattle.std.specs.Prelude.{◌≡◌, ℕ, zero, suc, ◌+◌, ◌<◌, Bool, ◌==◌, ◌&&◌, ◌||◌, List, length, slice_index, if◌then◌else◌}
-use Rattle.pm_trees.specs.declared.letters.TheConstants.{OPEN}
+use Rattle.pm_brackets.specs.declared.letters.TheConstants.{OPEN}
 use Rattle.pm_trees.specs.Word.{contour}
 use Rattle.pm_trees.specs.Node.{degree}
 use Rattle.pm_trees.specs.Pairs.{IsProfile, degree_before, pair_at}

@@ -2,7 +2,6 @@ pub mod Binomial
 pub mod Blossoming
 pub mod BudPattern
 pub mod Degrees
-pub mod First
 pub mod Leaves
 pub mod Node
 pub mod Pairs

@@ -1,8 +1,9 @@
 -- Nodes: a node is named by the place of its `(`, and the root node by 0, the place of the plant.
 use Rattle.std.specs.Prelude.{◌≡◌, ℕ, suc, ◌-◌, ◌*◌, ◌%◌, ◌≤◌, ◌==◌, ◌⊎◌, List, [], ◌∷◌, length, slice_index, drop, if◌then◌else◌}
 use Rattle.pm_limits.specs.declared.TheConstants.{MAX_DEGREE}
-use Rattle.pm_trees.specs.declared.letters.TheConstants.{BUD, OPEN, CLOSE}
-use Rattle.pm_trees.specs.Word.{count}
+use Rattle.pm_trees.specs.declared.letters.TheConstants.{BUD}
+use Rattle.pm_brackets.specs.declared.letters.TheConstants.{OPEN, CLOSE}
+use Rattle.pm_brackets.specs.Word.{count}
 
 -- The letters that stand on the level on which a text begins, where so many brackets are open: what stands inside
 -- brackets is left out, a bracket pair counts as its `(`, and the level ends at the first `)` that closes none of these.

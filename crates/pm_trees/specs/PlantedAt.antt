@@ -3,7 +3,8 @@ use Rattle.std.specs.Prelude.{◌≡◌, ◌⊎◌, ◌↔◌, ℕ, ◌<◌, ◌
 use Rattle.pm_trees.specs.Word.{contour}
 use Rattle.pm_trees.specs.Blossoming.{IsBlossoming}
 use Rattle.pm_trees.specs.Leaves.{IsLeafAt}
-use Rattle.pm_trees.specs.Replanted.{IsReplanted, place_from}
+use Rattle.pm_trees.specs.Replanted.{IsReplanted}
+use Rattle.pm_brackets.specs.Ring.{place_from}
 
 -- of two chosen places that of this number, counted from 0 along the contour, beginning with the plant
 pub data IsChosen (chosen : ℕ → Type 0) : ℕ → ℕ → Type 0 where

@@ -5,7 +5,7 @@ use Rattle.pm_limits.specs.declared.TheConstants.{MAX_EDGES}
 use Rattle.pm_trees.specs.declared.profile.Profile.{Profile}
 use Rattle.pm_trees.specs.declared.profile.ProfileRefusal.{ProfileRefusal}
 use Rattle.pm_trees.specs.declared.profile.ProfileRefusal.TheVariants.{Memory, Pair, TooMany}
-use Rattle.pm_trees.specs.First.{IsFirst}
+use Rattle.pm_brackets.specs.First.{IsFirst}
 use Rattle.pm_trees.specs.Degrees.{AreListed}
 use Rattle.pm_trees.specs.Pairs.{ArePairs, BreaksPair, IsProfile, edges_of}
 

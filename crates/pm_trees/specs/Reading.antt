@@ -4,7 +4,7 @@ use Rattle.pm_limits.specs.declared.TheConstants.{MAX_EDGES}
 use Rattle.pm_trees.specs.declared.tree.Tree.{Tree}
 use Rattle.pm_trees.specs.declared.tree.TreeRefusal.{TreeRefusal}
 use Rattle.pm_trees.specs.declared.tree.TreeRefusal.TheVariants.{Memory, Text, TooMany, Degree, Buds}
-use Rattle.pm_trees.specs.First.{IsFirst}
+use Rattle.pm_brackets.specs.First.{IsFirst}
 use Rattle.pm_trees.specs.Word.{IsInOrder, IsFault, contour}
 use Rattle.pm_trees.specs.Node.{BreaksDegree, BreaksBuds}
 use Rattle.pm_trees.specs.Blossoming.{IsBlossoming, IsShort, HasDegrees}

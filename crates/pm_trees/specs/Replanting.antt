@@ -1,14 +1,15 @@
 -- Laws of replanting.
-use Rattle.std.specs.Prelude.{◌≡◌, ℕ, ◌+◌, ◌-◌, ◌%◌, ◌<◌, List, length}
+use Rattle.std.specs.Prelude.{◌≡◌, ℕ, ◌<◌, List, length}
 use Rattle.pm_trees.specs.Word.{contour}
 use Rattle.pm_trees.specs.Blossoming.{IsBlossoming, nodes, leaves}
 use Rattle.pm_trees.specs.Leaves.{IsLeafAt}
 use Rattle.pm_trees.specs.Degrees.{IsProfileOf, nodes_of}
-use Rattle.pm_trees.specs.Replanted.{IsReplanted, place_from}
+use Rattle.pm_trees.specs.Replanted.{IsReplanted}
+use Rattle.pm_brackets.specs.Ring.{number_after, place_from}
 
 -- the number that a leaf gets where the leaf of another number is made the plant
 abbrev pub leaf_after : List ℕ → ℕ → ℕ → ℕ
-leaf_after word leaf number = (number + (leaves word - leaf)) % leaves word
+leaf_after word leaf number = number_after (leaves word) leaf number
 
 -- a blossoming tree with as many letters, leaves and nodes, and of each degree as many nodes
 pub record IsAlike (word other : List ℕ) : Type 0 where

@@ -4,9 +4,9 @@ ghost use Rattle.pm_trees.specs.Blossoming.{IsBlossoming};
 ghost use Rattle.pm_trees.specs.Degrees.{AreListed, IsProfileOf};
 ghost use Rattle.pm_trees.specs.steps.Counts.{AreCounts};
 
-use crate::letters::{CLOSE, OPEN};
 use crate::profile::Profile;
 use crate::tree::Tree;
+use pm_brackets::{CLOSE, OPEN};
 use pm_limits::MAX_DEGREE;
 use std::alloc::{AllocError, Global};
 

@@ -7,23 +7,13 @@ pub const LEAF: u8 = b'l';
 /// A bud.
 pub const BUD: u8 = b'b';
 
-/// The beginning of an edge to a child.
-pub const OPEN: u8 = b'(';
-
-/// The end of an edge to a child.
-pub const CLOSE: u8 = b')';
-
 // Words of trees are read and written as text, so these bytes never change.
-const _: () = prove!(LEAF == b'l' && BUD == b'b' && OPEN == b'(' && CLOSE == b')');
+const _: () = prove!(LEAF == b'l' && BUD == b'b');
 
 /// The letter at a place of the contour of a word: that of the plant at place 0, and the k-th letter at place k.
 pub fn letter_at(word: &[u8], place: u32) -> u8
     requires { place ≤ length word.now }
     ensures { result ≡ slice_index (contour word.now) place }
 {
-    if place == 0 {
-        LEAF
-    } else {
-        word[place as usize - 1]
-    }
+    pm_brackets::letter_at(LEAF, word, place)
 }

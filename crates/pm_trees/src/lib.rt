@@ -3,7 +3,6 @@
 
 mod bracketing;
 mod degrees;
-mod faults;
 mod laws;
 mod leaf_places;
 mod letters;
@@ -21,7 +20,7 @@ pub use laws::{
     answer_is_unique, profile_answer_is_unique, profiles_are_kept, trees_are_replanted,
 };
 pub use leaf_places::leaf_place;
-pub use letters::{BUD, CLOSE, LEAF, OPEN, letter_at};
+pub use letters::{BUD, LEAF, letter_at};
 pub use patterns::{SLOT, pattern, pattern_count, patterns_are_ranked, rank};
 pub use profile::{Profile, ProfileRefusal};
 pub use read::read_tree;

@@ -1,13 +1,13 @@
 //! The degrees and the buds of the nodes of a word whose text is in order.
 ghost use Rattle.std.specs.Prelude.{◌≡◌, ◌+◌, ◌*◌, ◌<◌, ◌^◌, ◌↔◌, ◌==◌, if◌then◌else◌, suc, ℕ, IfOk, IsTrue, MatchOption, length, slice_index};
 ghost use Rattle.pm_trees.specs.Blossoming.{HasBuds, HasDegrees};
-ghost use Rattle.pm_trees.specs.First.{IsFirst};
-ghost use Rattle.pm_trees.specs.steps.Noted.{IsNoted, lesser};
+ghost use Rattle.pm_brackets.specs.First.{IsFirst};
+ghost use Rattle.pm_brackets.specs.Noted.{IsNoted};
 ghost use Rattle.pm_trees.specs.Node.{BreaksBuds, BreaksDegree, IsDegree};
 ghost use Rattle.pm_trees.specs.Word.{IsInOrder, contour};
 
-use crate::faults::lesser;
-use crate::letters::{BUD, CLOSE, OPEN};
+use crate::letters::BUD;
+use pm_brackets::{CLOSE, OPEN, noted};
 use pm_limits::MAX_DEGREE;
 use std::alloc::{AllocError, Global};
 
@@ -57,17 +57,6 @@ fn has_buds(entries: u32, buds: u32) -> bool
     ensures { IsTrue result ↔ (2 * suc buds ≡ suc entries) }
 {
     2 * (u64::from(buds) + 1) == u64::from(entries) + 1
-}
-
-/// Notes the node beside the one that was noted before, if it isn't right.
-fn noted(found: Option<u32>, place: u32, right: bool) -> Option<u32>
-    ensures { result ≡ (if right then found else lesser found (Some place)) }
-{
-    if right {
-        found
-    } else {
-        lesser(found, Some(place))
-    }
 }
 
 /// What was found so far and at this node, all of whose letters were read.

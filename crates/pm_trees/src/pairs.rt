@@ -1,6 +1,6 @@
 //! The rules of a list of pairs of a degree and a count.
 ghost use Rattle.std.specs.Prelude.{◌≡◌, ℕ, ◌<◌, ◌^◌, ◌↔◌, IsTrue, MatchOption, length};
-ghost use Rattle.pm_trees.specs.First.{IsFirst};
+ghost use Rattle.pm_brackets.specs.First.{IsFirst};
 ghost use Rattle.pm_trees.specs.Pairs.{ArePairs, BreaksPair, IsRight, degree_sum};
 
 use pm_limits::MAX_DEGREE;

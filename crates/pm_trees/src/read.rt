@@ -1,9 +1,10 @@
 ghost use Rattle.std.specs.Prelude.{◌<◌, ◌^◌, length};
 ghost use Rattle.pm_trees.specs.Reading.{IsAnswer};
 
-use crate::faults::first_fault;
+use crate::letters::{BUD, LEAF};
 use crate::nodes::node_faults;
 use crate::tree::{Tree, TreeRefusal};
+use pm_brackets::first_fault;
 use pm_limits::MAX_EDGES;
 use std::alloc::Global;
 
@@ -16,7 +17,7 @@ pub fn read_tree(alloc: Global, word: &[u8]) -> Result<Tree, TreeRefusal>
     requires { length word.now < 2 ^ 32 }
     ensures answer { IsAnswer word.now result }
 {
-    if let Some(place) = first_fault(alloc, word)? {
+    if let Some(place) = first_fault(alloc, word, &[LEAF, BUD])? {
         return Err(TreeRefusal::Text { place });
     }
     if word.len() >= 2 * MAX_EDGES as usize {

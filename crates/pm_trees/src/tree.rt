@@ -1,6 +1,7 @@
 ghost use Rattle.std.specs.Prelude.{◌≡◌, ℕ};
 
-use crate::letters::{LEAF, OPEN};
+use crate::letters::LEAF;
+use pm_brackets::{OPEN, letters_before, occurrences};
 use std::alloc::AllocError;
 use std::marker::Model;
 
@@ -49,7 +50,8 @@ impl Model for Tree {
 
 impl Tree {
     ghost use Rattle.std.specs.Prelude.{◌+◌, ◌*◌, ◌≤◌, suc, length, take};
-    ghost use Rattle.pm_trees.specs.Word.{contour, count};
+    ghost use Rattle.pm_trees.specs.Word.{contour};
+    ghost use Rattle.pm_brackets.specs.Word.{count};
     ghost use Rattle.pm_trees.specs.Blossoming.{IsBlossoming, edges, nodes, leaves};
     ghost use Rattle.pm_trees.specs.declared.letters.TheConstants.{BUD};
 
@@ -100,20 +102,6 @@ impl Tree {
         requires { place ≤ length self.now }
         ensures { result ≡ count LEAF (take place (contour self.now)) }
     {
-        if place == 0 {
-            return 0;
-        }
-        occurrences(&self.letters[..place as usize - 1], LEAF) + 1
+        letters_before(&self.letters, LEAF, place)
     }
-}
-
-ghost use Rattle.std.specs.Prelude.{◌<◌, ◌^◌, length};
-ghost use Rattle.pm_trees.specs.Word.{count};
-
-/// How often the letter stands in the word.
-fn occurrences(word: &[u8], letter: u8) -> u32
-    requires { length word.now < 2 ^ 32 }
-    ensures { result ≡ count letter word.now }
-{
-    word.iter().filter(|x| **x == letter).count() as u32
 }

@@ -1,7 +1,8 @@
 -- How far the levels of the darts are written.
 use Rattle.std.specs.Prelude.{◌≡◌, ℕ, suc, ◌+◌, ◌<◌, ◌≤◌, List, length, slice_index, take}
 use Rattle.pm_trees.specs.declared.letters.TheConstants.{LEAF, BUD}
-use Rattle.pm_trees.specs.Word.{count, contour}
+use Rattle.pm_brackets.specs.Word.{count}
+use Rattle.pm_trees.specs.Word.{contour}
 use Rattle.pm_close.specs.Level.{IsLevel}
 
 -- no front of the word has more than one leaf more than buds

@@ -1,6 +1,7 @@
 -- What the walk that opens a map asks of a dart, and what it writes.
 use Rattle.std.specs.Prelude.{ℕ, nat_lt, Bool, List, slice_index}
-use Rattle.pm_trees.specs.declared.letters.TheConstants.{LEAF, BUD, OPEN, CLOSE}
+use Rattle.pm_trees.specs.declared.letters.TheConstants.{LEAF, BUD}
+use Rattle.pm_brackets.specs.declared.letters.TheConstants.{OPEN, CLOSE}
 use Rattle.pm_map.specs.Rotation.{twin}
 use Rattle.pm_walk.specs.declared.passing.DartKind.{DartKind}
 use Rattle.pm_walk.specs.declared.passing.DartKind.TheVariants.{CutFirst, CutAgain, KeptFirst, KeptAgain}

@@ -1,4 +1,4 @@
-use Rattle.pm_trees.proofs.Least.{noted_from_test}
+use Rattle.pm_brackets.proofs.Least.{noted_from_test}
 use Rattle.pm_trees.proofs.nodes.with_node.Goals as goal
 
 pub returns-clause-degree : goal.returns-clause-degree

@@ -1,0 +1,16 @@
+pub mod Bracketed
+pub mod Dyck
+mod Filling
+pub mod Least
+pub mod LetterCounts
+pub mod LetterTurns
+pub mod Levels
+pub mod Nesting
+mod Pairing
+mod Reading
+pub mod Replants
+pub mod RingPlaces
+pub mod Rings
+pub mod Stack
+pub mod Tally
+pub mod Turns

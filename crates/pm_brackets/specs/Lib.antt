@@ -1,0 +1,5 @@
+pub mod First
+pub mod Noted
+pub mod Ring
+pub mod Word
+pub mod steps

@@ -1,5 +1,0 @@
-use Rattle.pm_trees.proofs.Reading.{IsReading}
-use Rattle.pm_trees.proofs.faults.first_unmatched.Given as goal
-
-abbrev pub invariant-letters : goal.invariant-letters
-invariant-letters l = IsReading l.word l.open.items l.i
