@@ -1,8 +1,9 @@
 -- Counts that are even.
-use Rattle.std.proofs.Common.{◌≡◌, ℕ, zero, suc, ◌+◌, ◌%◌, ◌<◌, ◌≤◌, ◌&&◌, Bool, true, false, inl, inr, ltb, eqb, refl, sym, ◌∙◌, ap, arith}
-use Rattle.std.proofs.lemmas.Bool.{cases_eq, cases_order, cases_Bool, lt-ltb, le-ltb, ltb-true, eq-eqb, ne_eqb, eqb-true, and_parts, and_from, and_left, and_right, both_ways}
+use Rattle.std.proofs.Common.{◌≡◌, ℕ, ◌+◌, ◌%◌, ◌<◌, ◌≤◌, ◌&&◌, Bool, true, inl, inr, ltb, eqb, sym, ◌∙◌, ap, arith}
+use Rattle.std.proofs.lemmas.Bool.{cases_order, cases_Bool, lt-ltb, le-ltb, ltb-true, and_parts, and_from, and_left, and_right}
 use Rattle.pm_perm.specs.Count.{count_below}
-use Rattle.pm_perm.proofs.Counts.{count_below-same, count_below-split, count_below-into}
+use Rattle.pm_perm.proofs.Sums.{sum_below, count_below-sum, sum_below-led, sum_below-even, led_sum, chosen, leads_cases}
+use Rattle.pm_perm.proofs.Counts.{count_below-split, count_below-into}
 
 -- the numbers that pass make pairs
 pub record ArePaired (n : ℕ) (t : ℕ → ℕ) (passes : ℕ → Bool) : Type 0 where
@@ -58,62 +59,12 @@ pub record AreLedEvenly (n : ℕ) (lead : ℕ → ℕ) (passes : ℕ → Bool) :
 
 -- so the numbers that pass are even in number
 pub even_in_cycles : (n : ℕ) (lead : ℕ → ℕ) (passes : ℕ → Bool) → AreLedEvenly n lead passes → count_below passes n % 2 ≡ 0
-even_in_cycles n lead passes led = ap (λ c. c % 2) (sym all) ∙ led_below_even n (omega arith) where
-  led_below : ℕ → ℕ → Bool
-  led_below m k = passes k && ltb (lead k) m
-
-  led_by : ℕ → ℕ → Bool
-  led_by m k = passes k && eqb (lead k) m
-
-  none : (test : ℕ → Bool) → ((k : ℕ) → k < n → test k ≡ true → ⊥) → count_below test n % 2 ≡ 0
-  none test nowhere =
-      let few : count_below test n ≤ count_below test 0 = count_below-into test test (λ k. k) n 0
-      (λ k h e. absurd (nowhere k h e)) (λ k h e. absurd (nowhere k h e)) (λ j k hj hk ej ek same. same) in
-      omega (arith, few)
-
-  all : count_below (led_below n) n ≡ count_below passes n
-  all = count_below-same (led_below n) passes n (λ k h. right_true (passes k) (ltb (lead k) n) (lt-ltb (lead k) n (led.inside k h))) where
-    right_true : (a b : Bool) → b ≡ true → (a && b) ≡ a
-    right_true true b e = e
-    right_true false b e = refl
-
-  by_even : (m : ℕ) → m < n → count_below (led_by m) n % 2 ≡ 0
-  by_even m h = elim (cases_eq (lead m) m) [
-    | inr other ↦ none (led_by m) (λ k hk e.
-        (let at : lead k ≡ m = eqb-true (lead k) m (and_parts (passes k) (eqb (lead k) m) e).1 in
-        other (sym (ap lead at) ∙ led.twice k hk ∙ at)))
-    | inl leads ↦ elim (cases_Bool (passes m)) [
-      | inl it_passes ↦ ap (λ c. c % 2) (count_below-same (led_by m) (λ e. eqb (lead e) m) n (λ k hk. elim (cases_eq (lead k) m) [
-        | inl at ↦ and_from (passes k) (eqb (lead k) m) (sym (led.kept k hk) ∙ ap passes at ∙ it_passes) (eq-eqb (lead k) m at) ∙ sym (eq-eqb (lead k) m at)
-        | inr apart ↦ and_right (passes k) (eqb (lead k) m) (ne_eqb (lead k) m apart) ∙ sym (ne_eqb (lead k) m apart)
-      ])) ∙ led.even m h leads
-      | inr it_fails ↦ none (led_by m) (λ k hk e.
-          (let at : lead k ≡ m = eqb-true (lead k) m (and_parts (passes k) (eqb (lead k) m) e).1 in
-          both_ways (passes m) it_fails (sym (ap passes at) ∙ led.kept k hk ∙ (and_parts (passes k) (eqb (lead k) m) e).0)))
-    ]
-  ]
-
-  more : (m : ℕ) → count_below (led_below m) n + count_below (led_by m) n ≡ count_below (led_below (suc m)) n
-  more m = count_below-split (led_below m) (led_by m) (led_below (suc m)) n (λ k h. elim (cases_order (lead k) m) [
-    | inl same ↦ inr (
-      and_right (passes k) (ltb (lead k) m) (le-ltb (lead k) m (omega (arith, same))),
-      ap (λ b. passes k && b) (eq-eqb (lead k) m same ∙ sym (lt-ltb (lead k) (suc m) (omega (arith, same)))),
-    )
-    | inr apart ↦ elim apart [
-      | inl less ↦ inl (
-        ap (λ b. passes k && b) (lt-ltb (lead k) m less ∙ sym (lt-ltb (lead k) (suc m) (omega (arith, less)))),
-        and_right (passes k) (eqb (lead k) m) (ne_eqb (lead k) m (λ e. omega (arith, e, less))),
-      )
-      | inr beyond ↦ inl (
-        ap (λ b. passes k && b) (le-ltb (lead k) m (omega (arith, beyond)) ∙ sym (le-ltb (lead k) (suc m) (omega (arith, beyond)))),
-        and_right (passes k) (eqb (lead k) m) (ne_eqb (lead k) m (λ e. omega (arith, e, beyond))),
-      )
-    ]
-  ])
-
-  even_sum : (a b c : ℕ) → a + b ≡ c → a % 2 ≡ 0 → b % 2 ≡ 0 → c % 2 ≡ 0
-  even_sum a b c whole h h' = omega arith
-
-  led_below_even : (m : ℕ) → m ≤ n → count_below (led_below m) n % 2 ≡ 0
-  led_below_even zero h = none (led_below 0) (λ k hk e. (let low : lead k < 0 = ltb-true (lead k) 0 (and_parts (passes k) (ltb (lead k) 0) e).1 in omega (arith, low)))
-  led_below_even (suc m) h = even_sum (count_below (led_below m) n) (count_below (led_by m) n) (count_below (led_below (suc m)) n) (more m) (led_below_even m (omega arith)) (by_even m (omega arith))
+unfolding chosen led_sum
+even_in_cycles n lead passes led =
+    let ones : ℕ → ℕ = λ k. 1 in
+    let by_leaders : count_below passes n ≡ sum_below (led_sum n lead (chosen passes ones)) n = count_below-sum passes n ∙ sum_below-led n lead (chosen passes ones) led.inside in
+    ap (λ (c : ℕ). c % 2) by_leaders ∙ sum_below-even (led_sum n lead (chosen passes ones)) n (λ m l.
+    elim (leads_cases n lead passes (record { inside = led.inside; twice = led.twice; kept = led.kept }) m) [
+      | inl all ↦ ap (λ (c : ℕ). c % 2) (all.same ones ∙ sym (count_below-sum (λ e. eqb (lead e) m) n)) ∙ led.even m l all.is_leader
+      | inr none ↦ ap (λ (c : ℕ). c % 2) (none ones)
+    ])

@@ -22,4 +22,5 @@ pub mod Renumbered
 pub mod Repeats
 pub mod SameCycle
 pub mod Stretches
+pub mod Sums
 pub mod Walks
