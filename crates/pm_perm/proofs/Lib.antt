@@ -3,6 +3,7 @@ mod Checks
 pub mod Contained
 pub mod Counts
 pub mod EvenCounts
+pub mod FullPairs
 pub mod KeyRings
 pub mod CycleLists
 pub mod Interleaved
