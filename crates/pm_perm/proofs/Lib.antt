@@ -2,6 +2,7 @@ pub mod BothNested
 mod Checks
 pub mod Contained
 pub mod Counts
+pub mod ConnectedEuler
 pub mod EvenCounts
 pub mod FullPairs
 pub mod KeyRings
