@@ -3,6 +3,7 @@ pub mod ChoicesLines
 pub mod ClassLaws
 pub mod CommandWords
 pub mod EndingLemmas
+pub mod FirstLines
 pub mod HeadlineFiles
 pub mod HeadlineLemmas
 pub mod ImagesAgain

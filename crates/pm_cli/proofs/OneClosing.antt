@@ -1,6 +1,6 @@
 -- A tree file closes to one answer.
 use Rattle.std.proofs.Common.{◌≡◌, ℕ, List, sym, ap, ◌∙◌, subst, refl}
-use Rattle.std.specs.Prelude.{Result, Ok, Err}
+use Rattle.std.specs.Prelude.{codes, Result, Ok, Err}
 use Rattle.pm_text.specs.Broken.{IsBrokenLine}
 use Rattle.pm_text.proofs.BrokenLemmas.{valid_has_no_broken_line, broken_line_is_unique}
 use Rattle.pm_trees.specs.declared.tree.Tree.{Tree as Read}
@@ -23,7 +23,7 @@ use Rattle.pm_cli.specs.TreeFile.{IsTreeFile, HasWord, rule_of_word, RefusesTree
 use Rattle.pm_cli.specs.Closing.{ClosesTo, IsMatchedPlant, ClosesEulerian, closed, no_tree, matched}
 use Rattle.pm_cli.proofs.OneMapAnswer.{same_why, value_or_why, one_rule, is_rule}
 use Rattle.pm_cli.proofs.OneText.{one_text}
-use Rattle.pm_cli.proofs.TreeLines.{one_word}
+use Rattle.pm_cli.proofs.FirstLines.{one_word}
 
 -- a word closes to one text
 one_closing : (word a b : List ℕ) → ClosesTo a word → ClosesTo b word → a ≡ b
@@ -35,7 +35,7 @@ one_closing word a b x y =
 
 -- the file has one word
 same_word : (P Q : List ℕ → Type 0) (bytes : List ℕ) (x : HasWord bytes P) (y : HasWord bytes Q) → P y.word
-same_word P Q bytes x y = subst P (one_word x.word y.word (sym x.spelled.spelled ∙ y.spelled.spelled)) x.holds
+same_word P Q bytes x y = subst P (one_word (codes "tree ") x.word y.word (sym x.spelled.spelled ∙ y.spelled.spelled)) x.holds
 
 -- a line of a file with a word isn't broken
 no_line : (P : List ℕ → Type 0) (bytes : List ℕ) (line : ℕ) → HasWord bytes P → IsBrokenLine IsTreeFile bytes line → ⊥

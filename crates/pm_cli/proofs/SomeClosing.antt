@@ -74,10 +74,10 @@ module _ (bytes : List ℕ) (told : (answer : Result (List ℕ) Refusal) → Clo
         (λ none.
         let degrees = degrees_from word none in
         first_or_none (BreaksBuds (contour word)) (length (contour word)) (λ node breaks. node_within word node breaks.is_node)
-        (λ no_other. closes (record { in_order = line.in_order; short = short; degrees = degrees; buds = buds_from word no_other }))
-        (λ node first. refused (reading.Buds node) (Tree (Buds node)) refl (record { in_order = line.in_order; short = short; degrees = degrees; first = first })))
-        (λ node first. refused (reading.Degree node) (Tree (Degree node)) refl (record { in_order = line.in_order; short = short; first = first }))
-    | inr long ↦ refused (reading.TooMany (length word)) (Limited (Letters (length word))) refl (record { in_order = line.in_order; counted = refl; long = long })
+        (λ no_other. closes (record { in_order = line.is; short = short; degrees = degrees; buds = buds_from word no_other }))
+        (λ node first. refused (reading.Buds node) (Tree (Buds node)) refl (record { in_order = line.is; short = short; degrees = degrees; first = first })))
+        (λ node first. refused (reading.Degree node) (Tree (Degree node)) refl (record { in_order = line.is; short = short; first = first }))
+    | inr long ↦ refused (reading.TooMany (length word)) (Limited (Letters (length word))) refl (record { in_order = line.is; counted = refl; long = long })
   ]
 
 pub closes_answered : (bytes : List ℕ) → IsAnswered (ClosesEulerian bytes)

@@ -127,7 +127,7 @@ tasks_are_told OpenEulerian m rooted few answered = elim (cases_lt 0 (length m.s
       (λ all.
       let opening = each_map_opens m rooted some all in
       let tree = opening.1.blossoming in
-      answered (Ok _) (opened _ (record { word = opening.0; opened = opening.1; is_text = record { in_order = tree.in_order; some = some_letters opening.0 tree; spelled = refl } })) (λ e. cc))
+      answered (Ok _) (opened _ (record { word = opening.0; opened = opening.1; is_text = record { is = tree.in_order; some = some_letters opening.0 tree; spelled = refl } })) (λ e. cc))
       (λ dart other. answered (Err (class.Vertex dart)) (other_degree dart other) (λ e. cc))
   | inr none ↦ answered (Err class.Empty) (no_dart (omega (arith, none))) (λ e. cc)
 ]

@@ -13,4 +13,5 @@ pub mod Sampling
 pub mod TreeFile
 pub mod Trip
 pub mod Unsampling
+pub mod WordLine
 pub mod steps

@@ -1,6 +1,6 @@
 -- Tree files: one line, the word `tree` and the word of a tree.
-use Rattle.std.specs.Prelude.{◌≡◌, ℕ, ◌<◌, List, [], ◌∷◌, ◌++◌, length, codes, Option, None, Some, Err}
-use Rattle.pm_text.specs.Broken.{newline, IsBrokenLine}
+use Rattle.std.specs.Prelude.{◌≡◌, ℕ, List, codes, Option, None, Some, Err}
+use Rattle.pm_text.specs.Broken.{IsBrokenLine}
 use Rattle.pm_trees.specs.declared.tree.TreeRefusal.{TreeRefusal}
 use Rattle.pm_trees.specs.declared.tree.TreeRefusal.TheVariants as reading
 use Rattle.pm_trees.specs.Reading.{IsAnswer}
@@ -9,22 +9,19 @@ use Rattle.pm_cli.specs.declared.refusal.Limit.TheVariants.{Letters}
 use Rattle.pm_cli.specs.declared.refusal.Refusal.{Refusal}
 use Rattle.pm_cli.specs.declared.refusal.Refusal.TheVariants.{Text, Limited, Tree}
 use Rattle.pm_cli.specs.declared.refusal.TreeRule.TheVariants.{Degree, Buds}
+use Rattle.pm_cli.specs.WordLine.{IsWordLine, IsWordFile, HasWordLine}
 
 -- the file that spells the word, which is in order and has a letter
-pub record IsTreeLine (word bytes : List ℕ) : Type 0 where
-  pub in_order : IsInOrder word
-  pub some : 0 < length word
-  pub spelled : bytes ≡ codes "tree " ++ word ++ newline ∷ []
+abbrev pub IsTreeLine : List ℕ → List ℕ → Type 0
+IsTreeLine word bytes = IsWordLine (codes "tree ") IsInOrder word bytes
 
 -- a valid tree file
 abbrev pub IsTreeFile : List ℕ → Type 0
-IsTreeFile bytes = (word : List ℕ) × IsTreeLine word bytes
+IsTreeFile bytes = IsWordFile (codes "tree ") IsInOrder bytes
 
 -- a file with this property of its word
-pub record HasWord (bytes : List ℕ) (P : List ℕ → Type 0) : Type 0 where
-  pub word : List ℕ
-  pub spelled : IsTreeLine word bytes
-  pub holds : P word
+abbrev pub HasWord : List ℕ → (List ℕ → Type 0) → Type 0
+HasWord bytes P = HasWordLine (codes "tree ") IsInOrder bytes P
 
 -- how it is told that a word is no blossoming tree; a word that isn't in order breaks the form of the file
 abbrev pub rule_of_word : TreeRefusal → Option Refusal

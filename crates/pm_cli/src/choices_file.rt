@@ -1,38 +1,12 @@
-ghost use Rattle.std.specs.Prelude.{◌≡◌, ◌≤◌, length, IfOk, MatchOption};
+ghost use Rattle.std.specs.Prelude.{◌≤◌, length, IfOk};
 ghost use Rattle.pm_io.specs.declared.TheConstants.{MAX_BYTES as limit};
-ghost use Rattle.pm_text.specs.Broken.{IsBrokenLine};
-ghost use Rattle.pm_cli.specs.Sampling.{IsChoicesFile, IsChoicesLine};
-ghost use Rattle.pm_cli.specs.steps.ChoicesFile.{IsOnlyLine, IsChoicesAnswer};
+ghost use Rattle.pm_cli.specs.Sampling.{IsChoicesLine};
+ghost use Rattle.pm_cli.specs.steps.ChoicesFile.{IsChoicesAnswer};
 
+use crate::first_line::first_line;
 use crate::refusal::{Refusal, Stop};
 use pm_lists::{ListTextRefusal, NumList, put_list, read_list};
-use pm_text::Lines;
 use std::alloc::{AllocError, Global};
-
-// The first line of a file of choices.
-#[derive(Clone, Copy)]
-struct FirstLine<'a> {
-    text: &'a [u8],
-    // Whether nothing follows the line.
-    is_alone: bool,
-}
-
-// The first line, or `None` where there is none that is ended.
-fn first_line(bytes: &[u8]) -> Option<FirstLine<'_>>
-    ensures { MatchOption result
-        (IsBrokenLine IsChoicesFile bytes.now 1)
-        (λ line. IsOnlyLine bytes.now line.text.now line.is_alone) }
-{
-    let mut lines = Lines::new(bytes);
-    let line = lines.next()?;
-    if !line.ended {
-        return None;
-    }
-    Some(FirstLine {
-        text: line.text,
-        is_alone: lines.next().is_none(),
-    })
-}
 
 /// Reads the choices of a file of choices.
 pub(crate) fn read_choices(alloc: Global, bytes: &[u8]) -> Result<NumList, Stop>

@@ -10,6 +10,7 @@ mod close;
 mod command;
 mod draw;
 mod engine;
+mod first_line;
 mod laws;
 mod map_file;
 mod open;

@@ -6,8 +6,7 @@ ghost use Rattle.pm_trees.specs.Word.{contour};
 ghost use Rattle.pm_match.specs.Pairing.{IsPairing};
 ghost use Rattle.pm_match.specs.steps.Waiting.{Opens, Meets, Passes, top_of};
 
-use pm_brackets::letter_at;
-use pm_trees::{BUD, LEAF, Tree};
+use pm_trees::{BUD, LEAF, Tree, letter_at};
 use std::alloc::{AllocError, Global};
 use std::marker::Model;
 

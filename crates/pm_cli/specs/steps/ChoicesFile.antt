@@ -1,20 +1,12 @@
 -- What the code that reads a file of choices answers.
-use Rattle.std.specs.Prelude.{◌≡◌, ℕ, Bool, true, false, List, Result, Ok, Err, codes}
+use Rattle.std.specs.Prelude.{ℕ, List, Result, Ok, Err}
 use Rattle.pm_text.specs.Broken.{IsBrokenLine}
-use Rattle.pm_lists.specs.ListLine.{SpellsList}
 use Rattle.pm_lists.specs.declared.num_list.NumList.{NumList}
 use Rattle.pm_cli.specs.declared.refusal.Refusal.{Refusal}
 use Rattle.pm_cli.specs.declared.refusal.Refusal.TheVariants.{Text}
 use Rattle.pm_cli.specs.declared.refusal.Stop.{Stop}
 use Rattle.pm_cli.specs.Sampling.{IsChoicesLine, IsChoicesFile}
 use Rattle.pm_cli.specs.steps.Answering.{StopsBy}
-
--- The first line of a file, without its newline, and whether nothing follows. Where it spells choices and nothing
--- follows, the file spells them; else a line is broken.
-pub record IsOnlyLine (bytes text : List ℕ) (alone : Bool) : Type 0 where
-  pub spelled : alone ≡ true → (choices : List ℕ) → SpellsList (codes "choices") text choices → IsChoicesLine choices bytes
-  pub followed : alone ≡ false → (choices : List ℕ) → SpellsList (codes "choices") text choices → IsBrokenLine IsChoicesFile bytes 2
-  pub broken : ((choices : List ℕ) → SpellsList (codes "choices") text choices → ⊥) → IsBrokenLine IsChoicesFile bytes 1
 
 -- the line at which a file of choices breaks its form
 pub data IsBrokenChoices (bytes : List ℕ) : Refusal → Type 0 where

@@ -1,22 +1,34 @@
-use Rattle.std.proofs.Common.{refl}
+use Rattle.std.proofs.Common.{List, ℕ, refl, sym, subst}
+use Rattle.std.specs.Prelude.{codes}
 use Rattle.pm_trees.specs.declared.tree.TreeRefusal.TheVariants.{TooMany, Degree, Buds}
 use Rattle.pm_cli.specs.declared.refusal.Limit.TheVariants.{Letters}
 use Rattle.pm_cli.specs.declared.refusal.Refusal.TheVariants.{Limited, Tree}
 use Rattle.pm_cli.specs.declared.refusal.TreeRule.TheVariants as told
-use Rattle.pm_cli.specs.TreeFile.{broken}
-use Rattle.pm_cli.proofs.TreeLines.{faulty_word, ruled}
+use Rattle.pm_trees.specs.Blossoming.{IsBlossoming}
+use Rattle.pm_cli.specs.TreeFile.{IsTreeLine, broken}
+use Rattle.pm_trees.specs.Word.{IsInOrder}
+use Rattle.pm_cli.proofs.FirstLines.{no_word, only_word, followed_word, wrong_word}
+use Rattle.pm_cli.proofs.TreeLines.{tree_words, faulty_word, ruled}
 use Rattle.pm_cli.proofs.tree_file.read_tree_file.Goals as goal
 
 pub returns-in_default : goal.returns-in_default
-returns-in_default c = broken 1 c.in_default.ensures
+returns-in_default c = broken 1 (no_word (codes "tree ") IsInOrder tree_words c.args.bytes.now c.in_default.ensures)
+
+pub returns-then-line : goal.returns-then-line
+returns-then-line c =
+    let tree = c.in-Ok.ensures.answer.1 in
+    let line = only_word (codes "tree ") IsInOrder tree_words c.args.bytes.now c.in-Some.line.word.now c.in-Some.line.is_alone c.in-Some.ensures c.if-line.true tree.in_order in
+    (subst (λ (word : List ℕ). IsTreeLine word c.args.bytes.now) (sym c.in-Ok.ensures.answer.0) line, subst IsBlossoming (sym c.in-Ok.ensures.answer.0) tree)
 
 pub returns-else-line : goal.returns-else-line
-returns-else-line c = broken 2 (c.in-Some.ensures.followed c.if-line.false (let h = c.in-Ok.ensures.answer.1 in h.in_order))
+returns-else-line c =
+    broken 2 (followed_word (codes "tree ") IsInOrder tree_words c.args.bytes.now c.in-Some.line.word.now c.in-Some.line.is_alone c.in-Some.ensures c.if-line.false (let h = c.in-Ok.ensures.answer.1 in h.in_order))
 
 pub returns-in-Err-Text : goal.returns-in-Err-Text
 returns-in-Err-Text c =
     let fault = rw c.in-Err-Text.field-0-is at c.in-Err-Text.ensures.answer in
-    broken 1 (c.in-Some.ensures.faulty (faulty_word c.in-Some.line.word.now c.in-Err-Text.field-0-0 fault))
+    broken 1 (wrong_word (codes "tree ") IsInOrder tree_words c.args.bytes.now c.in-Some.line.word.now c.in-Some.line.is_alone c.in-Some.ensures
+    (faulty_word c.in-Some.line.word.now c.in-Err-Text.field-0-0 fault))
 
 pub returns-in-Err-TooMany : goal.returns-in-Err-TooMany
 returns-in-Err-TooMany c =
