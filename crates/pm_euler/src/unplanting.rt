@@ -14,7 +14,7 @@ ghost use Rattle.pm_euler.specs.Unplanted.{IsUnplanted};
 
 use pm_map::RootedMap;
 use pm_match::free_leaves;
-use pm_open::{OpenRefusal, open_map};
+use pm_open::open_even;
 use pm_trees::{Tree, replant};
 use std::alloc::{AllocError, Global};
 
@@ -36,25 +36,12 @@ pub(crate) fn unplant(
     requires leaf { (opening : List ℕ) → IsOpening map.now opening → old_plant < leaves opening }
     ensures { IfOk result (λ unplanted. IsUnplanted map.now old_plant unplanted.tree unplanted.free) }
 {
-    let opening = opening_of(alloc, map)?;
+    let opening = open_even(alloc, map)?;
     let tree = replant(alloc, &opening, old_plant)?;
     let leaves = opening.leaves();
     let plant = (leaves - old_plant) % leaves;
     let free = number_of_free(&tree, plant);
     Ok(Unplanted { tree, free })
-}
-
-/// The opening of a map whose vertices have even degrees within the limit.
-fn opening_of(alloc: Global, map: &RootedMap) -> Result<Tree, AllocError>
-    requires some { 0 < length map.now.sigma }
-    requires degrees { AllAdmitted (structure_of map.now) (EvenUpTo MAX_DEGREE) }
-    ensures { IfOk result (IsOpening map.now) }
-{
-    match open_map(alloc, map) {
-        Ok(opening) => Ok(opening),
-        Err(OpenRefusal::Memory) => Err(AllocError),
-        Err(OpenRefusal::Degree { .. }) => unreachable!(),
-    }
 }
 
 /// Which of the two free leaves the leaf of this number is, which is free.

@@ -8,7 +8,7 @@ mod walking;
 pub use laws::{
     each_map_opens_once, levels_are_face_distances, opening_answer_is_unique, openings_keep_degrees,
 };
-pub use opening::{OpenRefusal, open_map};
+pub use opening::{OpenRefusal, open_even, open_map};
 
 #[cfg(test)]
 mod tests;

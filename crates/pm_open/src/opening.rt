@@ -1,5 +1,9 @@
-ghost use Rattle.std.specs.Prelude.{◌≡◌, ◌<◌, length};
-ghost use Rattle.pm_open.specs.Opening.{IsOpenAnswer};
+ghost use Rattle.std.specs.Prelude.{◌≡◌, ◌<◌, length, IfOk};
+ghost use Rattle.pm_limits.specs.declared.TheConstants.{MAX_DEGREE};
+ghost use Rattle.pm_map.specs.ClassRules.{AllAdmitted};
+ghost use Rattle.pm_map.specs.Rotation.{structure_of};
+ghost use Rattle.pm_map.specs.declared.admitted.Degrees.TheVariants.{EvenUpTo};
+ghost use Rattle.pm_open.specs.Opening.{IsOpenAnswer, IsOpening};
 ghost use Rattle.pm_open.specs.declared.opening.OpenRefusal.TheVariants.{Memory};
 
 use crate::walking::word_along;
@@ -42,6 +46,19 @@ pub fn open_map(alloc: Global, map: &RootedMap) -> Result<Tree, OpenRefusal>
     if let Some(dart) = map.vertex_of_other_degree(alloc, even)? {
         return Err(OpenRefusal::Degree { dart });
     }
+    Ok(open_even(alloc, map)?)
+}
+
+/// The same for a map that is known to have even degrees within `MAX_DEGREE`, which aren't tested.
+///
+/// # Errors
+///
+/// Only where there is no memory left.
+pub fn open_even(alloc: Global, map: &RootedMap) -> Result<Tree, AllocError>
+    requires some { 0 < length map.now.sigma }
+    requires degrees { AllAdmitted (structure_of map.now) (EvenUpTo MAX_DEGREE) }
+    ensures { IfOk result (IsOpening map.now) }
+{
     let distances = face_distances(alloc, map)?;
     let word = word_along(alloc, map, &distances)?;
     Ok(Tree::of_word(word))
