@@ -3,6 +3,7 @@ use Rattle.std.specs.Prelude.{◌≡◌, ℕ, List, Result, Ok, Err, ⊤}
 use Rattle.pm_trees.specs.Blossoming.{IsBlossoming}
 use Rattle.pm_trees.specs.Word.{contour}
 use Rattle.pm_match.specs.Pair.{IsPair, IsBalanced}
+use Rattle.pm_map.specs.Rotation.{RotationSystem}
 use Rattle.pm_close.specs.declared.closing.Closed.{Closed}
 use Rattle.pm_close.specs.declared.closing.CloseRefusal.{CloseRefusal}
 use Rattle.pm_close.specs.declared.closing.CloseRefusal.TheVariants.{Memory, NotBalanced}
@@ -20,6 +21,17 @@ abbrev pub IsClosing : List ℕ → Result Closed CloseRefusal → Type 0
 IsClosing word (Ok closed) = ClosesTo (contour word) closed
 IsClosing word (Err (NotBalanced bud)) = IsPair (contour word) bud 0
 IsClosing word (Err Memory) = ⊤
+
+-- the map alone that a balanced contour closes to
+pub record ClosesToMap (places : List ℕ) (map : RotationSystem) : Type 0 where
+  pub balanced : IsBalanced places
+  pub is_closed : IsClosed places map
+
+-- The same without levels.
+abbrev pub IsMapClosing : List ℕ → Result RotationSystem CloseRefusal → Type 0
+IsMapClosing word (Ok map) = ClosesToMap (contour word) map
+IsMapClosing word (Err (NotBalanced bud)) = IsPair (contour word) bud 0
+IsMapClosing word (Err Memory) = ⊤
 
 -- a tree has one answer, but for want of memory
 abbrev pub ClosingHasOneAnswer : Type 0

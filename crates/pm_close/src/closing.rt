@@ -3,7 +3,7 @@ ghost use Rattle.pm_brackets.specs.Word.{IsBracketing};
 ghost use Rattle.pm_trees.specs.Word.{contour};
 ghost use Rattle.pm_match.specs.Pair.{IsBalanced};
 ghost use Rattle.pm_match.specs.Pairing.{IsPairing};
-ghost use Rattle.pm_close.specs.Closing.{ClosesTo, IsClosing};
+ghost use Rattle.pm_close.specs.Closing.{ClosesTo, IsClosing, IsMapClosing};
 ghost use Rattle.pm_close.specs.Closure.{IsClosed};
 ghost use Rattle.pm_close.specs.steps.Numbered.{IsNumbered};
 ghost use Rattle.pm_close.specs.declared.closing.CloseRefusal.TheVariants.{Memory};
@@ -58,6 +58,20 @@ pub fn close_tree(alloc: Global, tree: &Tree) -> Result<Closed, CloseRefusal>
     let across = brackets(alloc, tree)?;
     let pairing = matching(alloc, tree)?;
     Ok(close_paired(alloc, tree, &across, &pairing)?)
+}
+
+/// The closure of a balanced tree without its levels, in one pass along its letters.
+///
+/// # Errors
+///
+/// `NotBalanced` exactly where the plant is in a pair, with the bud of that pair.
+pub fn close_map(alloc: Global, tree: &Tree) -> Result<RootedMap, CloseRefusal>
+    ensures { IsMapClosing tree.now result }
+{
+    match plant_bud(tree) {
+        Some(bud) => Err(CloseRefusal::NotBalanced { bud }),
+        None => Ok(close_balanced(alloc, tree)?),
+    }
 }
 
 /// The map of a tree that is known to be balanced, in one pass along its letters: the plant's bud isn't looked for, and no

@@ -35,6 +35,7 @@ fn refuses_a_paired_plant(rt: HostRuntime) -> Result<(), Fail> {
         let tree = read_tree(rt.alloc(), word)?;
         let refusal = close_tree(rt.alloc(), &tree).err();
         assert_eq!(rt; refusal, Some(CloseRefusal::NotBalanced { bud }));
+        assert_eq!(rt; close_map(rt.alloc(), &tree).err(), refusal);
     }
     Ok(())
 }
@@ -50,6 +51,8 @@ fn closes_what_is_balanced(rt: HostRuntime) -> Result<(), Fail> {
         let tree = read_tree(rt.alloc(), word)?;
         assert!(rt; pm_match::is_balanced(&tree));
         let map = close_balanced(rt.alloc(), &tree)?;
+        assert_eq!(rt; map.sigma(), sigma);
+        let map = close_map(rt.alloc(), &tree)?;
         assert_eq!(rt; map.sigma(), sigma);
     }
     Ok(())
