@@ -20,9 +20,14 @@ pub fn arities_of(alloc: Global, ranges: &[(u32, u32)]) -> Result<Vec<u32>, Allo
     Ok(arities)
 }
 
-/// The arity of an object: that of a node, or 0 where it is a leaf.
+/// The arity of an object: that of a node, or 0 where it is a leaf. Of a leaf the last node's arity is read and taken no
+/// times, so that no step branches where leaves and nodes are mixed.
 pub(crate) fn arity_of(arities: &[u32], object: u32) -> u32
     ensures { result ≡ arity_of arities.now object }
 {
-    arities.get(object as usize).copied().unwrap_or(0)
+    let Some(last) = arities.len().checked_sub(1) else {
+        return 0;
+    };
+    let object = object as usize;
+    arities[object.min(last)] * u32::from(object <= last)
 }
