@@ -1,5 +1,5 @@
 //! The order of the objects, from the codes of their ranges.
-ghost use Rattle.std.specs.Prelude.{◌≡◌, ℕ, ◌+◌, ◌-◌, ◌<◌, ◌≤◌, ◌^◌, ◌==◌, List, length, map, slice_index, count_by, take, IfOk};
+ghost use Rattle.std.specs.Prelude.{◌≡◌, ℕ, ◌+◌, ◌-◌, ◌<◌, ◌≤◌, ◌^◌, ◌==◌, List, length, map, slice_index, count_by, take, EachIndex, IfOk};
 ghost use Rattle.pm_lehmer.specs.Lehmer.{IsArrangementCode, IsArrangementOf};
 ghost use Rattle.pm_words.specs.Word.{turned};
 ghost use Rattle.pm_objects.specs.Codes.{AreObjectsOf};
@@ -48,12 +48,19 @@ fn arrange_from(alloc: Global, first: u32, code: &[u64]) -> Result<Vec<u32>, All
     ensures list { IfOk result (λ list. (order : List ℕ) → IsArrangementOf code.now order → list.items ≡ map (λ number. first + number) order) }
     ensures long { IfOk result (λ list. length list.items ≡ length code.now) }
 {
-    let order = arrange(alloc, code)?;
-    let mut list = Vec::with_capacity(alloc, code.len())?;
-    'numbers: for number in &order {
-        list.push(first + *number)?;
-    }
+    let mut list = arrange(alloc, code)?;
+    raise(&mut list, first);
     Ok(list)
+}
+
+/// Adds so much to each number.
+fn raise(list: &mut [u32], first: u32)
+    requires { EachIndex list.old (λ place. first + slice_index list.old place < 2 ^ 32) }
+    ensures { list.new ≡ map (λ number. first + number) list.old }
+{
+    'places: for place in 0..list.len() {
+        list[place] += first;
+    }
 }
 
 /// Puts the objects of the list, which are of this arity, at its places.
