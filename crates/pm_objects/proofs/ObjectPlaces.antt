@@ -1,8 +1,9 @@
 -- Objects that are put at the places of their arities.
-use Rattle.std.proofs.Common.{◌≡◌, ℕ, ◌+◌, ◌<◌, ◌==◌, cond, inl, inr, List, length, take, refl, ap, sym, ◌∙◌, arith, eq-eqb, ne_eqb}
+use Rattle.std.proofs.Common.{◌≡◌, ℕ, ◌+◌, ◌<◌, ◌≤◌, ◌==◌, take-take, Bool, true, false, cond, inl, inr, List, length, take, refl, ap, sym, ◌∙◌, arith, eq-eqb, ne_eqb, eqb-true}
+use Rattle.std.specs.Int.{from_bool}
 use Rattle.std.specs.Prelude.{count_by, slice_index, slice_set}
-use Rattle.std.proofs.lemmas.Bool.{cases_eq}
-use Rattle.std.proofs.lemmas.List.{get_or-set_same, get_or-set_other}
+use Rattle.std.proofs.lemmas.Bool.{cases_eq, cases_lt, eqb-false}
+use Rattle.std.proofs.lemmas.List.{get_or-set_same, get_or-set_other, set-get_or}
 use Rattle.std.proofs.lemmas.List.Sums.{sum_by_more, sum_by-take-le}
 
 -- how often an arity stands among others
@@ -30,7 +31,7 @@ pub record ArePut (arities : List ℕ) (arity : ℕ) (list before objects : List
 pub put_none : (arities : List ℕ) (arity : ℕ) (list before : List ℕ) → ArePut arities arity list before before 0 0
 put_none arities arity list before = record { next_is = refl; here = λ p less e. absurd (omega (arith, less)); others = λ p n. refl }
 
-pub put_skipped : (arities : List ℕ) (arity : ℕ) (list before objects : List ℕ) (next place : ℕ) → ArePut arities arity list before objects next place → place < length arities
+put_skipped : (arities : List ℕ) (arity : ℕ) (list before objects : List ℕ) (next place : ℕ) → ArePut arities arity list before objects next place → place < length arities
     → (slice_index arities place ≡ arity → ⊥) → ArePut arities arity list before objects next (place + 1)
 put_skipped arities arity list before objects next place a less n = record {
   next_is = a.next_is ∙ sym (with_arity_same arity arities place less n);
@@ -41,15 +42,7 @@ put_skipped arities arity list before objects next place a less n = record {
   others = λ p other. a.others p (λ within e. other (omega (arith, within)) e);
 }
 
-pub next_within : (arities : List ℕ) (arity : ℕ) (list before objects : List ℕ) (next place : ℕ) → ArePut arities arity list before objects next place → place < length arities
-    → slice_index arities place ≡ arity → length list ≡ with_arity arity arities → next < length list
-next_within arities arity list before objects next place a less e many =
-    let b = a.next_is in
-    let c = with_arity_more arity arities place less e in
-    let d = sum_by-take-le (λ (y : ℕ). cond (y == arity) 1 0) arities (place + 1) in
-    omega (arith, b, c, d, many)
-
-pub put_one : (arities : List ℕ) (arity : ℕ) (list before objects after : List ℕ) (next place : ℕ) → ArePut arities arity list before objects next place → place < length arities → place < length objects
+put_one : (arities : List ℕ) (arity : ℕ) (list before objects after : List ℕ) (next place : ℕ) → ArePut arities arity list before objects next place → place < length arities → place < length objects
     → slice_index arities place ≡ arity → after ≡ slice_set objects place (slice_index list next) → ArePut arities arity list before after (next + 1) (place + 1)
 put_one arities arity list before objects after next place a less inside e set =
     let counted = a.next_is in
@@ -67,3 +60,26 @@ put_one arities arity list before objects after next place a less inside e set =
         | inr apart ↦ other p apart ∙ a.others p (λ within h. n (omega (arith, within)) h)
       ];
     }
+
+-- at each place what the test chooses is written
+pub put_step : (arities : List ℕ) (arity : ℕ) (list before objects : List ℕ) (next place : ℕ) (here : Bool) → ArePut arities arity list before objects next place → place < length arities → place < length objects
+    → here ≡ (slice_index arities place == arity)
+    → ArePut arities arity list before (slice_set objects place (cond here (slice_index list next) (slice_index objects place))) (next + from_bool here) (place + 1)
+put_step arities arity list before objects next place true a less inside is = put_one arities arity list before objects _ next place a less inside (eqb-true (slice_index arities place) arity (sym is)) refl
+put_step arities arity list before objects next place false a less inside is =
+    let none : next + 0 ≡ next = omega arith in
+    rw (none, set-get_or objects place 0) (put_skipped arities arity list before objects next place a less (eqb-false (slice_index arities place) arity (sym is)))
+
+-- where all of the list are put, no place behind has the arity
+pub put_whole : (arities : List ℕ) (arity : ℕ) (list before objects : List ℕ) (next place : ℕ) → ArePut arities arity list before objects next place → length list ≡ with_arity arity arities → length list ≤ next
+    → (p : ℕ) → p < length arities → slice_index arities p ≡ arity → p < place
+put_whole arities arity list before objects next place a many all p inside e = elim (cases_lt p place) [
+  | inl within ↦ within
+  | inr past ↦
+      let front : with_arity arity (take place (take p arities)) ≤ with_arity arity (take p arities) = sum_by-take-le (λ (y : ℕ). cond (y == arity) 1 0) (take p arities) place in
+      let same : take place (take p arities) ≡ take place arities = take-take place p arities past in
+      let one = with_arity_more arity arities p inside e in
+      let whole = sum_by-take-le (λ (y : ℕ). cond (y == arity) 1 0) arities (p + 1) in
+      let counted = a.next_is in
+      absurd (omega (arith, front, ap (with_arity arity) same, one, whole, counted, many, all))
+]

@@ -1,5 +1,5 @@
 //! The order of the objects, from the codes of their ranges.
-ghost use Rattle.std.specs.Prelude.{◌≡◌, ℕ, ◌+◌, ◌-◌, ◌<◌, ◌≤◌, ◌^◌, ◌==◌, List, length, map, slice_index, count_by, take, EachIndex, IfOk};
+ghost use Rattle.std.specs.Prelude.{◌≡◌, ℕ, ◌+◌, ◌-◌, ◌<◌, ◌≤◌, ◌^◌, ◌==◌, List, length, map, slice_index, count_by, cond, take, EachIndex, IfOk};
 ghost use Rattle.pm_lehmer.specs.Lehmer.{IsArrangementCode, IsArrangementOf};
 ghost use Rattle.pm_words.specs.Word.{turned};
 ghost use Rattle.pm_objects.specs.Codes.{AreObjectsOf};
@@ -63,7 +63,8 @@ fn raise(list: &mut [u32], first: u32)
     }
 }
 
-/// Puts the objects of the list, which are of this arity, at its places.
+/// Puts the objects of the list, which are of this arity, at its places. Each place is written, those of others with what
+/// is there, so that no step branches.
 fn put_objects(arities: &[u32], arity: u32, list: &[u32], objects: &mut [u32])
     requires as_long { length objects.old ≡ length arities.now }
     requires many { length list.now ≡ count_by (λ y. y == arity) arities.now }
@@ -73,12 +74,20 @@ fn put_objects(arities: &[u32], arity: u32, list: &[u32], objects: &mut [u32])
 {
     let mut next = 0;
     'arities: for (place, other) in arities.iter().enumerate() {
-        if *other != arity {
-            continue 'arities;
+        if next == list.len() {
+            break 'arities;
         }
-        objects[place] = list[next];
-        next += 1;
+        let is_here = *other == arity;
+        objects[place] = chosen(is_here, list[next], objects[place]);
+        next += usize::from(is_here);
     }
+}
+
+/// The first number where the test holds, and else the second.
+fn chosen(test: bool, first: u32, second: u32) -> u32
+    ensures { result ≡ cond test first second }
+{
+    if test { first } else { second }
 }
 
 /// The list that, read cyclically from the start, is these objects.
