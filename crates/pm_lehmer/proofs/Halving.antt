@@ -183,7 +183,7 @@ IsPutDownTo-whole counts number many inside = record {
   changed = λ below more counted one. record { at_middle = λ place positive inside outside. absurd (elim outside [ inl low_one ↦ omega arith | inr high_one ↦ omega arith ]) };
 }
 
-pub IsPutDownTo-left : (before counts : List ℕ) (number many low high smaller : ℕ) → IsPutDownTo before counts number many low high smaller → low + 1 < high → number < (low + high) / 2
+IsPutDownTo-left : (before counts : List ℕ) (number many low high smaller : ℕ) → IsPutDownTo before counts number many low high smaller → low + 1 < high → number < (low + high) / 2
     → IsPutDownTo before (set counts ((low + high) / 2) (get_or counts ((low + high) / 2) 0 + many)) number many low ((low + high) / 2) smaller
 IsPutDownTo-left before counts number many low high smaller down wide less = record {
   lower = down.lower;
@@ -205,7 +205,7 @@ IsPutDownTo-left before counts number many low high smaller down wide less = rec
       omega (arith, down.kept place (omega arith) under, counted.at_middle place (omega arith) (omega (arith, down.ends)), one.raised place (omega arith), one.raised (start_of (length before) place) (omega (arith, within.above))));
 }
 
-pub IsPutDownTo-right : (before counts : List ℕ) (number many low high smaller : ℕ) → IsPutDownTo before counts number many low high smaller → low + 1 < high → (low + high) / 2 ≤ number
+IsPutDownTo-right : (before counts : List ℕ) (number many low high smaller : ℕ) → IsPutDownTo before counts number many low high smaller → low + 1 < high → (low + high) / 2 ≤ number
     → get_or counts ((low + high) / 2) 0 < 4294967296
     → IsPutDownTo before counts number many ((low + high) / 2) high (smaller + get_or counts ((low + high) / 2) 0)
 IsPutDownTo-right before counts number many low high smaller down wide more fits = record {
@@ -227,22 +227,6 @@ IsPutDownTo-right before counts number many low high smaller down wide more fits
       let within : IsStartWithin low place (start_of (length before) place) = start_of-within (length before) low high place down.part above (omega arith) in
       omega (arith, down.kept place above (omega arith), counted.at_middle place (omega arith) (omega (arith, down.ends)), one.same place (omega arith), one.same (start_of (length before) place) (omega (arith, within.up_to))));
 }
-
--- the end of the way: the interval is the number alone
-pub IsPutDownTo-counted : (before counts : List ℕ) (number many low high smaller : ℕ) → IsPutDownTo before counts number many low high smaller → high ≤ low + 1
-    → (below more : ℕ → ℕ) → IsCounted before below → IsMore number many below more → IsCounted counts more
-IsPutDownTo-counted before counts number many low high smaller down narrow below more counted one =
-    let settled : IsSettled (length before) counts low high more = down.changed below more counted one in
-    record {
-      at_middle = λ place positive inside.
-          rw down.same_length (settled.at_middle place positive (omega (arith, down.same_length)) (elim (cases_lt low place) [ inl above ↦ inr (omega arith) | inr up_to ↦ inl up_to ]));
-    }
-
-pub IsPutDownTo-smaller : (before counts : List ℕ) (number many low high smaller : ℕ) → IsPutDownTo before counts number many low high smaller → high ≤ low + 1
-    → (below : ℕ → ℕ) → IsCounted before below → smaller + below 0 ≡ below number
-IsPutDownTo-smaller before counts number many low high smaller down narrow below counted =
-    let here : low ≡ number = omega (arith, down.lower, down.upper) in
-    down.sums below counted ∙ ap below here
 
 -- a step down: to the first half where the number is below the middle, and else to the second
 pub IsPutDownTo-step : (before counts : List ℕ) (number many low half smaller : ℕ) (first : Bool) → IsPutDownTo before counts number many low (low + 2 * half) smaller → 0 < half
@@ -291,7 +275,7 @@ IsTakenDownTo-whole counts rank filled = record {
   changed = λ number fewer more lower upper counted one. record { at_middle = λ place positive inside outside. absurd (elim outside [ inl low_one ↦ omega arith | inr high_one ↦ omega arith ]) };
 }
 
-pub IsTakenDownTo-left : (before counts : List ℕ) (low high rank left : ℕ) → IsTakenDownTo before counts low high rank left → low + 1 < high → left < get_or counts ((low + high) / 2) 0
+IsTakenDownTo-left : (before counts : List ℕ) (low high rank left : ℕ) → IsTakenDownTo before counts low high rank left → low + 1 < high → left < get_or counts ((low + high) / 2) 0
     → IsTakenDownTo before (set counts ((low + high) / 2) (get_or counts ((low + high) / 2) 0 - 1)) low ((low + high) / 2) rank left
 IsTakenDownTo-left before counts low high rank left down wide less = record {
   filled = omega arith;
@@ -315,7 +299,7 @@ IsTakenDownTo-left before counts low high rank left down wide less = record {
       omega (arith, down.kept place (omega arith) under, counted.at_middle place (omega arith) (omega (arith, down.ends)), one.raised place (omega arith), one.raised (start_of (length before) place) (omega (arith, within.above))));
 }
 
-pub IsTakenDownTo-right : (before counts : List ℕ) (low high rank left : ℕ) → IsTakenDownTo before counts low high rank left → low + 1 < high → get_or counts ((low + high) / 2) 0 ≤ left
+IsTakenDownTo-right : (before counts : List ℕ) (low high rank left : ℕ) → IsTakenDownTo before counts low high rank left → low + 1 < high → get_or counts ((low + high) / 2) 0 ≤ left
     → IsTakenDownTo before counts ((low + high) / 2) high rank (left - get_or counts ((low + high) / 2) 0)
 IsTakenDownTo-right before counts low high rank left down wide reached = record {
   filled = omega arith;
@@ -336,21 +320,6 @@ IsTakenDownTo-right before counts low high rank left down wide reached = record 
       let within : IsStartWithin low place (start_of (length before) place) = start_of-within (length before) low high place down.part above (omega arith) in
       omega (arith, down.kept place above (omega arith), counted.at_middle place (omega arith) (omega (arith, down.ends)), one.same place (omega arith), one.same (start_of (length before) place) (omega (arith, within.up_to))));
 }
-
-pub IsTakenDownTo-counted : (before counts : List ℕ) (low high rank left : ℕ) → IsTakenDownTo before counts low high rank left → high ≤ low + 1
-    → (fewer more : ℕ → ℕ) → IsCounted before more → IsMore low 1 fewer more → IsCounted counts fewer
-IsTakenDownTo-counted before counts low high rank left down narrow fewer more counted one =
-    let settled : IsSettled (length before) counts low high fewer = down.changed low fewer more (omega arith) (omega (arith, down.filled)) counted one in
-    record {
-      at_middle = λ place positive inside.
-          rw down.same_length (settled.at_middle place positive (omega (arith, down.same_length)) (elim (cases_lt low place) [ inl above ↦ inr (omega arith) | inr up_to ↦ inl up_to ]));
-    }
-
-pub IsTakenDownTo-chosen : (before counts : List ℕ) (low high rank left : ℕ) → IsTakenDownTo before counts low high rank left → high ≤ low + 1
-    → (below : ℕ → ℕ) → IsCounted before below → below 0 ≡ 0 → rank < below (length before) → (below low ≤ rank) × (rank < below (low + 1))
-IsTakenDownTo-chosen before counts low high rank left down narrow below counted none less =
-    let here : high ≡ low + 1 = omega (arith, down.filled) in
-    (omega (arith, down.sums below counted none), omega (arith, ap below here, down.upper below counted none less))
 
 -- a step down: to the first half where fewer are left than it has, and else to the second
 pub IsTakenDownTo-step : (before counts : List ℕ) (low half rank left : ℕ) (first : Bool) → IsTakenDownTo before counts low (low + 2 * half) rank left → 0 < half
