@@ -8,7 +8,7 @@ use Rattle.pm_map.specs.Structure.{IsStructure}
 use Rattle.pm_map.specs.Plane.{edges}
 use Rattle.pm_map.specs.Rotation.{RotationSystem, structure_of, IsRootedMap}
 use Rattle.pm_map.specs.Classes.{IsGeneral, IsQuartic}
-use Rattle.pm_map.specs.ClassRules.{IsLeastOther}
+use Rattle.pm_map.specs.ClassRules.{AllAdmitted}
 use Rattle.pm_map.specs.declared.admitted.Degrees.TheVariants.{Exactly}
 use Rattle.pm_map.specs.declared.class_refusal.ClassRefusal.TheVariants.{Memory, Empty, TooMany, Vertex, Face, Loop, Double}
 use Rattle.pm_map.proofs.CarriedStructure.{rooted_is_plane}
@@ -104,9 +104,9 @@ general_is_exchanged n size = record {
   kept = general_kept_by_renumbering n;
 }
 
--- a quartic map isn't refused
-pub no_other_degree : (m : RotationSystem) (n dart : ℕ) → IsQuartic (structure_of m) n → IsLeastOther (structure_of m) (Exactly 4) dart → ⊥
-no_other_degree m n dart is other = other.breaks (record { degree = 4; counted = is.degrees dart other.within; admitted = refl })
+-- the vertices of a quartic map have degree 4
+pub all_four : (m : RotationSystem) (n : ℕ) → IsQuartic (structure_of m) n → AllAdmitted (structure_of m) (Exactly 4)
+all_four m n is = λ d l. record { degree = 4; counted = is.degrees d l; admitted = refl }
 
 pub general_where_answered : IsSizeWhereAnswered IsGeneralSize (λ n m. IsGeneral (structure_of m) n) IsGeneralAnswer
 general_where_answered m n rooted = (λ is. is, λ both. both)

@@ -15,7 +15,7 @@ use pm_euler::Quartic;
 use pm_limits::MAX_EDGES;
 use pm_lists::{Bounds, NumList};
 use pm_map::{ClassRefusal, RootedMap};
-use pm_medial::{MedialRefusal, UnmedialRefusal, medial, unmedial};
+use pm_medial::{MedialRefusal, medial, unmedial_of_quartic};
 use std::alloc::{AllocError, Global};
 
 /// The plane maps with `n` edges, for `n` from 0 to half of [`MAX_EDGES`]. From 1 on they are the unmedials of the maps of
@@ -33,11 +33,7 @@ impl SampledThrough for General {
     fn map_of(alloc: Global, _size: &u32, behind: &RootedMap) -> Result<RootedMap, AllocError> {
         // Its contract says that the map is a rooted one.
         let _edges = behind.edges();
-        match unmedial(alloc, behind) {
-            Ok(map) => Ok(map),
-            Err(UnmedialRefusal::Memory) => Err(AllocError),
-            Err(UnmedialRefusal::NotQuartic { .. }) => unreachable!(),
-        }
+        unmedial_of_quartic(alloc, behind)
     }
 
     fn behind_of(alloc: Global, _size: &u32, map: &RootedMap) -> Result<RootedMap, AllocError> {

@@ -14,7 +14,7 @@ pub use laws::{
     unmedial_undoes_medial,
 };
 pub use medials::{MedialRefusal, medial};
-pub use unmedials::{UnmedialRefusal, unmedial};
+pub use unmedials::{UnmedialRefusal, unmedial, unmedial_of_quartic};
 
 #[cfg(test)]
 mod tests;

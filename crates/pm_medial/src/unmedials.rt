@@ -1,10 +1,12 @@
 //! The unmedial of a rooted map whose vertices have degree 4.
 ghost use Rattle.std.specs.Prelude.{◌≡◌, ◌*◌, ◌<◌, ◌^◌, suc, false, length, slice_index, slice_index_or, IfOk};
 ghost use Rattle.pm_perm.specs.Permutation.{IsPermutationList};
-ghost use Rattle.pm_map.specs.Rotation.{IsRootedMap};
+ghost use Rattle.pm_map.specs.ClassRules.{AllAdmitted};
+ghost use Rattle.pm_map.specs.Rotation.{IsRootedMap, structure_of};
+ghost use Rattle.pm_map.specs.declared.admitted.Degrees.TheVariants.{Exactly};
 ghost use Rattle.pm_map.specs.EdgeNumbers.{dart_of};
 ghost use Rattle.pm_medial.specs.Colouring.{AreColours};
-ghost use Rattle.pm_medial.specs.Medial.{IsUnmedialAnswer};
+ghost use Rattle.pm_medial.specs.Medial.{IsUnmedialAnswer, IsUnmedialOf};
 ghost use Rattle.pm_medial.specs.steps.Halved.{plus_of, edge_two_on, edge_before, AreEdgesTwoOn, IsHalfRotation};
 
 use crate::colours::colours_of;
@@ -45,6 +47,19 @@ pub fn unmedial(alloc: Global, map: &RootedMap) -> Result<RootedMap, UnmedialRef
     if let Some(dart) = map.vertex_of_other_degree(alloc, four)? {
         return Err(UnmedialRefusal::NotQuartic { dart });
     }
+    Ok(unmedial_of_quartic(alloc, map)?)
+}
+
+/// The same for a map whose vertices are known to have degree 4, which aren't tested.
+///
+/// # Errors
+///
+/// Only where there is no memory left.
+pub fn unmedial_of_quartic(alloc: Global, map: &RootedMap) -> Result<RootedMap, AllocError>
+    requires some { 0 < length map.now.sigma }
+    requires degrees { AllAdmitted (structure_of map.now) (Exactly 4) }
+    ensures { IfOk result (λ unmedial. IsUnmedialOf (structure_of map.now) unmedial) }
+{
     let edges = map.edges();
     let colours = colours_of(alloc, map)?;
     let twins = twins_of(alloc, map, edges, &colours)?;
