@@ -25,7 +25,7 @@ returns c = closed _ (record {
   holds = record {
     blossoming = c.in_ok-tree.ensures.1;
     balanced = let h = c.in-Ok.ensures in h.balanced;
-    closed = c.in-Ok.closed.map;
+    closed = c.in-Ok.closed;
     is_closed = let h = c.in-Ok.ensures in h.is_closed;
     canonical = let h = c.in_ok-canonical_bytes.ensures in h.canonical;
     is_canonical = let h = c.in_ok-canonical_bytes.ensures in h.is_canonical;
