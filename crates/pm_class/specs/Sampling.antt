@@ -3,7 +3,7 @@ use Rattle.std.specs.Prelude.{◌≡◌, ◌↔◌, ℕ, List, Result, Ok, Err, 
 use Rattle.pm_lists.specs.Valid.{IsValidList}
 use Rattle.pm_lists.specs.Refusal.{IsRefusalOf}
 use Rattle.pm_map.specs.Rotation.{RotationSystem, IsRootedMap}
-use Rattle.pm_map.specs.Canonical.{IsCanonical}
+use Rattle.pm_map.specs.Canonical.{IsCanonical, IsCanonicalOf}
 use Rattle.pm_map.specs.declared.class_refusal.ClassRefusal.{ClassRefusal}
 use Rattle.pm_map.specs.declared.class_refusal.ClassRefusal.TheVariants.{Memory as MemoryOfClass}
 use Rattle.pm_class.specs.declared.sample.Sample.{Sample}
@@ -19,6 +19,13 @@ pub record IsSampled (bounds residues : List ℕ) (has : RotationSystem → Type
   pub canonical : IsCanonical sample.map
   pub in_class : has sample.map
   pub valid_residue : IsValidList sample.residue residues
+
+-- The same for a map whose darts have any names: its canonical map and the residue are sampled.
+pub record IsSampledUnnamed (bounds residues : List ℕ) (has : RotationSystem → Type 0) (samples : RotationSystem → List ℕ → Type 0) (choices : List ℕ) (sample : Sample) : Type 0 where
+  pub rooted : IsRootedMap sample.map
+  pub canonical : RotationSystem
+  pub is_canonical : IsCanonicalOf sample.map canonical
+  pub sampled : IsSampled bounds residues has samples choices (record { map = canonical; residue = sample.residue })
 
 -- The map and the residue of the choices, or in what the choices aren't valid for the bounds. Want of memory may come at
 -- any choices.

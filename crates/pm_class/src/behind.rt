@@ -5,7 +5,7 @@ ghost use Rattle.pm_map.specs.Rotation.{RotationSystem};
 ghost use Rattle.pm_map.specs.Structure.{Structure};
 ghost use Rattle.pm_class.specs.Behind.{AreChoicesOf, AreExchanged, IsSameAsImage, SamplesBehind};
 ghost use Rattle.pm_class.specs.OneToOne.{AreOneToOne};
-ghost use Rattle.pm_class.specs.Sampling.{IsSampled};
+ghost use Rattle.pm_class.specs.Sampling.{IsSampled, IsSampledUnnamed};
 
 use crate::map_class::MapClass;
 use crate::sample::Sample;
@@ -25,6 +25,20 @@ pub trait SampledThrough {
 
     // The map is in the class and has the size.
     ghost contains: { Self.Behind.Size → RotationSystem → Type 0 };
+
+    /// A map of the class behind, whose darts have any names, and the residue: those of choices that are valid for a size.
+    ///
+    /// # Errors
+    ///
+    /// `AllocError` where memory runs out.
+    fn sample_behind(
+        alloc: Global,
+        size: &<Self::Behind as MapClass>::Size,
+        choices: &[u64],
+    ) -> Result<Sample, AllocError>
+        requires size { Self.Behind.is_size size.now }
+        requires valid { IsValidList choices.now (Self.Behind.choice_limits size.now) }
+        ensures { IfOk result (λ sample. IsSampledUnnamed (Self.Behind.choice_limits size.now) (Self.Behind.residue_limits size.now) (Self.Behind.has size.now) (Self.Behind.samples size.now choices.now) choices.now sample) };
 
     /// A map of which one of the class behind is the image.
     ///
@@ -80,7 +94,7 @@ pub fn sample_through<C: SampledThrough>(
     let Sample {
         map: behind,
         residue,
-    } = C::Behind::sample_valid(alloc, size, choices)?;
+    } = C::sample_behind(alloc, size, choices)?;
     let named = C::map_of(alloc, size, &behind)?;
     drop(behind);
     // Its contract says that the map is a rooted one.

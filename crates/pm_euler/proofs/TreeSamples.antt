@@ -18,12 +18,12 @@ use Rattle.pm_objects.proofs.CodeBounds.{valid_push}
 use Rattle.pm_objects.proofs.RangeCodes.{valid_last}
 use Rattle.pm_class.specs.Behind.{AreChoicesOf}
 use Rattle.pm_class.specs.OneToOne.{AreOneToOne, Gives, IsMember, IsGiven}
-use Rattle.pm_class.specs.Sampling.{HasOneSample, IsSampled}
+use Rattle.pm_class.specs.Sampling.{HasOneSample, IsSampled, IsSampledUnnamed}
 use Rattle.pm_class.specs.Unsampling.{HasOneList}
 use Rattle.pm_planting.proofs.SideTexts.{same_push}
 use Rattle.pm_euler.specs.Objects.{leaves_of_profile}
 use Rattle.pm_euler.specs.PlantedAnew.{IsPlantedAnew}
-use Rattle.pm_euler.specs.Sampled.{IsClosedAnew, IsFrontOf, IsMade, SamplesByTree}
+use Rattle.pm_euler.specs.Sampled.{IsClosedAnew, IsClosedUnnamed, IsFrontOf, IsMade, SamplesByTree}
 use Rattle.pm_euler.specs.Unplanted.{IsUnplanted}
 use Rattle.pm_euler.proofs.ClosedAnew.{closed_anew}
 use Rattle.pm_euler.proofs.ClosedMaps.{canonical_closure_is_rooted}
@@ -121,6 +121,23 @@ module _ {pairs : List (ℕ × ℕ)} {fronts rests residues : List ℕ} {has : R
         closed = subst (λ (free : ℕ). IsClosedAnew word free map old_plant) parts.1 closed;
         residue_is = e;
       })
+
+  -- and where its darts have any names
+  pub unnamed_sampled : (choices : List ℕ) (map : RotationSystem) (residue word rest : List ℕ) (old_plant : ℕ) → IsValidList choices (fronts ++ 2 ∷ []) → makes (take (length choices - 1) choices) word rest
+      → IsClosedUnnamed word (slice_index choices (length choices - 1)) map old_plant → residue ≡ joined rest old_plant
+      → IsSampledUnnamed (fronts ++ 2 ∷ []) residues has (SamplesByTree fronts makes joined choices) choices (record { map = map; residue = residue })
+  unnamed_sampled choices map residue word rest old_plant valid made closed e =
+      let named : (canonical : RotationSystem) × IsCanonicalOf map canonical = canonical_map_exists map closed.rooted in
+      record {
+        rooted = closed.rooted;
+        canonical = named.0;
+        is_canonical = named.1;
+        sampled = choices_sampled choices named.0 residue word rest old_plant valid made (record {
+          turned = closed.turned;
+          is_anew = closed.is_anew;
+          is_closed = record { closure = map; is_closure = closed.is_closed; is_canonical = named.1 };
+        }) e;
+      }
 
   pub map_degrees : (map : RotationSystem) → IsRootedMap map → has map → AllAdmitted (structure_of map) (EvenUpTo MAX_DEGREE)
   map_degrees map rooted member = profile_degrees pairs map class.profile rooted ((class.maps map rooted).0 member)

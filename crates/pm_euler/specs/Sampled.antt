@@ -5,7 +5,9 @@ use Rattle.pm_lists.specs.Valid.{IsValidList}
 use Rattle.pm_trees.specs.Blossoming.{IsBlossoming}
 use Rattle.pm_trees.specs.Degrees.{nodes_of}
 use Rattle.pm_trees.specs.Pairs.{pair_at}
-use Rattle.pm_map.specs.Rotation.{RotationSystem}
+use Rattle.pm_trees.specs.Word.{contour}
+use Rattle.pm_map.specs.Rotation.{RotationSystem, IsRootedMap}
+use Rattle.pm_close.specs.Closure.{IsClosed}
 use Rattle.pm_euler.specs.Closed.{IsCanonicalClosure}
 use Rattle.pm_euler.specs.PlantedAnew.{IsPlantedAnew}
 
@@ -14,6 +16,13 @@ pub record IsClosedAnew (word : List ℕ) (free : ℕ) (map : RotationSystem) (o
   pub turned : List ℕ
   pub is_anew : IsPlantedAnew word free turned old_plant
   pub is_closed : IsCanonicalClosure turned map
+
+-- the same for a closure whose darts aren't named canonically
+pub record IsClosedUnnamed (word : List ℕ) (free : ℕ) (map : RotationSystem) (old_plant : ℕ) : Type 0 where
+  pub rooted : IsRootedMap map
+  pub turned : List ℕ
+  pub is_anew : IsPlantedAnew word free turned old_plant
+  pub is_closed : IsClosed (contour turned) map
 
 -- All three: all choices but the last are the front, and the last says at which free leaf the tree is planted anew. The
 -- residue joins the rest and the number of the old plant.

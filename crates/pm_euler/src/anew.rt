@@ -4,31 +4,31 @@ ghost use Rattle.pm_trees.specs.Replanting.{IsAlike};
 ghost use Rattle.pm_trees.specs.Word.{contour};
 ghost use Rattle.pm_match.specs.Pair.{IsBalanced};
 ghost use Rattle.pm_euler.specs.PlantedAnew.{IsFreeLeaf, IsPlantedAnew};
-ghost use Rattle.pm_euler.specs.Sampled.{IsClosedAnew};
+ghost use Rattle.pm_euler.specs.Sampled.{IsClosedUnnamed};
 
-use pm_canon::canon;
 use pm_close::close_balanced;
 use pm_map::RootedMap;
 use pm_match::free_leaves;
 use pm_trees::{Tree, replant};
 use std::alloc::{AllocError, Global};
 
-/// The canonical map of the closure of a tree that is planted at a free leaf, and the number in it of the leaf that was the
-/// plant before.
+/// The closure of a tree that is planted at a free leaf, and the number in it of the leaf that was the plant before.
 #[derive(Drop)]
 pub(crate) struct ClosedAnew {
     pub(crate) map: RootedMap,
     pub(crate) old_plant: u32,
 }
 
-/// The tree, planted at its free leaf of this number, as a map: the second and the third step of sampling.
+/// The tree, planted at its free leaf of this number, as a map: the second and the third step of sampling. The darts are
+/// named as they were met.
 pub(crate) fn closed_anew(alloc: Global, tree: &Tree, free: u64) -> Result<ClosedAnew, AllocError>
     requires { free < 2 }
-    ensures { IfOk result (λ closed. IsClosedAnew tree.now free closed.map closed.old_plant) }
+    ensures { IfOk result (λ closed. IsClosedUnnamed tree.now free closed.map closed.old_plant) }
 {
     let anew = plant_anew(alloc, tree, free)?;
-    let closed = close_balanced(alloc, &anew.tree)?;
-    let map = canon(alloc, &closed)?;
+    let map = close_balanced(alloc, &anew.tree)?;
+    // Its contract says that the map is a rooted one.
+    let _edges = map.edges();
     Ok(ClosedAnew {
         map,
         old_plant: anew.old_plant,

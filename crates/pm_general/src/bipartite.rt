@@ -29,6 +29,10 @@ impl SampledThrough for Bipartite {
 
     ghost contains = { λ pairs m. IsBipartite (structure_of m) pairs };
 
+    fn sample_behind(alloc: Global, size: &Profile, choices: &[u64]) -> Result<Sample, AllocError> {
+        Eulerian::sample_unnamed(alloc, size, choices)
+    }
+
     fn map_of(alloc: Global, _size: &Profile, behind: &RootedMap) -> Result<RootedMap, AllocError> {
         // Its contract says that the map is a rooted one.
         let _edges = behind.edges();

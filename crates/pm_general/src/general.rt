@@ -30,6 +30,10 @@ impl SampledThrough for General {
 
     ghost contains = { λ n m. IsGeneral (structure_of m) n };
 
+    fn sample_behind(alloc: Global, size: &u32, choices: &[u64]) -> Result<Sample, AllocError> {
+        Quartic::sample_unnamed(alloc, size, choices)
+    }
+
     fn map_of(alloc: Global, _size: &u32, behind: &RootedMap) -> Result<RootedMap, AllocError> {
         // Its contract says that the map is a rooted one.
         let _edges = behind.edges();

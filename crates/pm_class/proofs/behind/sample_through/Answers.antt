@@ -1,5 +1,5 @@
 use Rattle.std.proofs.Common.{rules}
-use Rattle.pm_class.proofs.ExchangedLemmas.{sampled_before}
+use Rattle.pm_class.proofs.ExchangedLemmas.{sampled_unnamed, unnamed_in_class}
 use Rattle.pm_class.proofs.behind.sample_through.Goals as goal
 
 pub returns : goal.returns
@@ -11,4 +11,8 @@ returns g c =
     let rooted = c.edges-edges.ensures.valid in
     let imaged = c.in_ok-named.ensures in
     let canonical = c.in_ok-map.ensures in
-    search (rules, sampled_before)
+    search (rules, sampled_unnamed)
+
+pub map_of-requires-clause-in_class : goal.map_of-requires-clause-in_class
+map_of-requires-clause-in_class g c =
+    unnamed_in_class _ _ _ _ c.args.choices.now c.in_ok-behind.field-0 (c.is_one_to_one.ensures.kept c.args.size.now c.requires.size) c.in_ok-behind.ensures

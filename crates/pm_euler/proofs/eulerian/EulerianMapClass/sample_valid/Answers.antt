@@ -1,9 +1,5 @@
-use Rattle.std.proofs.Common.{ℕ, ◌∷◌, ◌++◌, [], ap, ◌∙◌}
-use Rattle.pm_euler.proofs.EulerianClass.{eulerian_class}
-use Rattle.pm_euler.proofs.TreeSamples.{choices_sampled}
+use Rattle.pm_class.proofs.ExchangedLemmas.{named_is_sampled}
 use Rattle.pm_euler.proofs.eulerian.EulerianMapClass.sample_valid.Goals as goal
 
 pub returns : goal.returns
-returns c =
-    choices_sampled (eulerian_class c.args.size.now c.requires.size) c.args.choices.now c.in_ok-closed.closed.map c.of.result c.in_ok-made.made.tree c.in_ok-made.made.rest.items c.in_ok-closed.closed.old_plant
-    c.requires.valid c.in_ok-made.ensures c.in_ok-closed.ensures (c.of.ensures ∙ c.in_ok-push.ensures.items ∙ ap (λ (k : ℕ). c.in_ok-made.made.rest.items ++ k ∷ []) c.from.ensures)
+returns c = named_is_sampled _ _ _ _ c.args.choices.now c.in_ok-unnamed.unnamed c.in_ok-map.map c.in_ok-unnamed.ensures c.in_ok-map.ensures

@@ -1,11 +1,5 @@
-use Rattle.std.proofs.Common.{ℕ, ◌∷◌, ◌++◌, [], List, ap₂, ◌∙◌}
-use Rattle.pm_euler.proofs.QuarticClass.{quartic_class}
-use Rattle.pm_euler.proofs.TreeSamples.{choices_sampled}
+use Rattle.pm_class.proofs.ExchangedLemmas.{named_is_sampled}
 use Rattle.pm_euler.proofs.quartic.QuarticMapClass.sample_valid.Goals as goal
 
 pub returns : goal.returns
-returns c =
-    let first = c.in_ok-push.ensures.items ∙ ap₂ (λ (xs : List ℕ) (k : ℕ). xs ++ k ∷ []) c.new-residue.ensures.items c.from.ensures in
-    let residue = c.of.ensures ∙ c.in_ok-extend_from_slice.ensures.items ∙ ap₂ (λ (xs ys : List ℕ). xs ++ ys) first c.deref.ensures.value in
-    choices_sampled (quartic_class c.args.size.now c.requires.size) c.args.choices.now c.in_ok-closed.closed.map c.of.result c.in_ok-made.made.tree c.in_ok-made.made.rest.items c.in_ok-closed.closed.old_plant
-    c.requires.valid c.in_ok-made.ensures c.in_ok-closed.ensures residue
+returns c = named_is_sampled _ _ _ _ c.args.choices.now c.in_ok-unnamed.unnamed c.in_ok-map.map c.in_ok-unnamed.ensures c.in_ok-map.ensures
