@@ -3,17 +3,16 @@ use Rattle.std.proofs.Common.{◌≡◌, ℕ, ◌≤◌, List, length, refl, sub
 use Rattle.std.specs.Prelude.{Result, Ok}
 use Rattle.pm_io.specs.declared.TheConstants.{MAX_BYTES}
 use Rattle.pm_cli.specs.declared.command.Command.TheVariants.{Reads, Makes}
-use Rattle.pm_cli.specs.declared.command.Image.{Image}
-use Rattle.pm_cli.specs.declared.command.MapTask.TheVariants.{Print, OpenEulerian}
-use Rattle.pm_cli.specs.declared.command.Image.TheVariants.{Canon, Medial, Unmedial, Dual}
+use Rattle.pm_cli.specs.declared.command.MapTask.{MapTask}
+use Rattle.pm_cli.specs.declared.command.MapTask.TheVariants.{Canon, Medial, Unmedial, Dual}
 use Rattle.pm_cli.specs.declared.command.Reader.{Reader}
-use Rattle.pm_cli.specs.declared.command.Reader.TheVariants.{CloseEulerian, OfMap, Check, Unsample, Sample}
+use Rattle.pm_cli.specs.declared.command.Reader.TheVariants.{CloseEulerian, OpenEulerian, OfMap, Check, Unsample, Sample}
 use Rattle.pm_cli.specs.declared.refusal.Refusal.{Refusal}
 use Rattle.pm_cli.specs.Answer.{Answers, no_command, too_long, of_file, of_size, AnswersReader}
 use Rattle.pm_cli.specs.Classes.{class_of}
 use Rattle.pm_cli.specs.Commands.{IsReader, Spells, spelling}
 use Rattle.pm_cli.specs.Laws.{AnswersByWords, ClosedTreesOpen, OpenedMapsClose, PrintsMap, PrintedMapsStay, ImagesReturn, DualsReturn, MedialsReturn, UnmedialsReturn, SampledListsReturn, SampledMapsAreCounted, UnsampledPairsReturn}
-use Rattle.pm_cli.specs.MapAnswers.{counts_line}
+use Rattle.pm_cli.specs.MapAnswers.{PrintsImage, counts_line}
 use Rattle.pm_cli.proofs.ClassLaws.{AreSamplers}
 use Rattle.pm_cli.proofs.CommandWords.{one_command}
 use Rattle.pm_cli.proofs.OneAnswer.{same_reader, reads_or_makes}
@@ -41,15 +40,16 @@ to_words reader is bytes text within h = of_file reader (record { is_command = i
 pub opened_by_words : ClosedTreesOpen AnswersByWords
 opened_by_words bytes text x =
     let closes = by_words CloseEulerian tt bytes text x in
-    to_words (OfMap OpenEulerian) tt text bytes (printed_within text (printed CloseEulerian bytes text tt closes)) (opened_again bytes text closes)
+    to_words OpenEulerian tt text bytes (printed_within text (printed CloseEulerian bytes text tt closes)) (opened_again bytes text closes)
 
 pub closed_by_words : OpenedMapsClose AnswersByWords
 closed_by_words bytes text canonical x y =
-    let opens = by_words (OfMap OpenEulerian) tt bytes text x in
-    to_words CloseEulerian tt text canonical (opened_within bytes text opens) (closed_again bytes text canonical opens (by_words (OfMap (Print Canon)) tt bytes canonical y))
+    let opens = by_words OpenEulerian tt bytes text x in
+    to_words CloseEulerian tt text canonical (opened_within bytes text opens) (closed_again bytes text canonical opens (by_words (OfMap Canon) tt bytes canonical y))
 
 reader_of : (reader : Reader) → PrintsMap reader → IsReader reader
 reader_of CloseEulerian is = tt
+reader_of OpenEulerian is = tt
 reader_of (OfMap task) is = tt
 reader_of (Check class) is = tt
 reader_of (Unsample class) is = tt
@@ -58,23 +58,23 @@ reader_of (Sample size) is = absurd is
 pub printed_by_words : PrintedMapsStay AnswersByWords
 printed_by_words reader bytes text is x =
     let prints = by_words reader (reader_of reader is) bytes text x in
-    to_words (OfMap (Print Canon)) tt text text (printed_within text (printed reader bytes text is prints)) (printed_maps_stay reader bytes text is prints)
+    to_words (OfMap Canon) tt text text (printed_within text (printed reader bytes text is prints)) (printed_maps_stay reader bytes text is prints)
 
 -- an image of an image, by words
-image_by_words : (there back : Image) → ImagesReturn AnswersReader (OfMap (Print there)) (OfMap (Print back)) → ImagesReturn AnswersByWords (OfMap (Print there)) (OfMap (Print back))
-image_by_words there back returns bytes text canonical x y =
-    let turns = by_words (OfMap (Print there)) tt bytes text x in
-    to_words (OfMap (Print back)) tt text canonical (printed_within text (printed (OfMap (Print there)) bytes text tt turns))
-    (returns bytes text canonical turns (by_words (OfMap (Print Canon)) tt bytes canonical y))
+image_by_words : (there back : MapTask) → PrintsImage there → ImagesReturn AnswersReader (OfMap there) (OfMap back) → ImagesReturn AnswersByWords (OfMap there) (OfMap back)
+image_by_words there back is returns bytes text canonical x y =
+    let turns = by_words (OfMap there) tt bytes text x in
+    to_words (OfMap back) tt text canonical (printed_within text (printed (OfMap there) bytes text is turns))
+    (returns bytes text canonical turns (by_words (OfMap Canon) tt bytes canonical y))
 
 pub duals_by_words : DualsReturn AnswersByWords
-duals_by_words = image_by_words Dual Dual duals_return
+duals_by_words = image_by_words Dual Dual tt duals_return
 
 pub medials_by_words : MedialsReturn AnswersByWords
-medials_by_words = image_by_words Medial Unmedial medials_return
+medials_by_words = image_by_words Medial Unmedial tt medials_return
 
 pub unmedials_by_words : UnmedialsReturn AnswersByWords
-unmedials_by_words = image_by_words Unmedial Medial unmedials_return
+unmedials_by_words = image_by_words Unmedial Medial tt unmedials_return
 
 pub lists_by_words : AreSamplers → SampledListsReturn AnswersByWords
 lists_by_words laws size bytes text is x =
@@ -100,7 +100,7 @@ counted_by_words laws size bytes text is x =
 pub sampled_by_words : AreSamplers → UnsampledPairsReturn AnswersByWords
 sampled_by_words laws class bytes text canonical x y =
     let unsamples = by_words (Unsample class) tt bytes text x in
-    let again = sampled_again laws class bytes text canonical unsamples (by_words (OfMap (Print Canon)) tt bytes canonical y) in
+    let again = sampled_again laws class bytes text canonical unsamples (by_words (OfMap Canon) tt bytes canonical y) in
     record {
       size = again.size;
       is_of = again.is_of;

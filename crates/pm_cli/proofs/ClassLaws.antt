@@ -1,12 +1,19 @@
 -- The laws of all classes.
-use Rattle.std.proofs.Common.{◌≡◌, ◌≤◌, refl, arith}
+use Rattle.std.proofs.Common.{◌≡◌, ℕ, zero, suc, ◌<◌, ◌≤◌, lit≤, List, [], ◌∷◌, refl, ap, subst, arith}
+use Rattle.std.specs.Prelude.{Some, codes}
+use Rattle.std.proofs.lemmas.Fmt.{decimal_injective}
+use Rattle.pm_trees.specs.Pairs.{IsRightPair, IsProfile}
 use Rattle.pm_limits.specs.declared.TheConstants.{MAX_EDGES}
 use Rattle.pm_cli.specs.declared.class.Class.{Class}
 use Rattle.pm_cli.specs.declared.class.Class.TheVariants as class
 use Rattle.pm_cli.specs.declared.class.Size.{Size}
 use Rattle.pm_cli.specs.declared.class.Size.TheVariants as sizes
-use Rattle.pm_cli.specs.Classes.{Sampler, general_sampler, quartic_sampler, eulerian_sampler, bipartite_sampler, sampler_of, AtSize, at_size, sized, IsSize, class_of, InClass, in_class, class_at}
+use Rattle.pm_cli.specs.Classes.{Sampler, general_sampler, quartic_sampler, eulerian_sampler, bipartite_sampler, sampler_of, AtSize, at_size, sized, IsSize, class_of, InClass, in_class, class_at, class_word, size_word}
 use Rattle.pm_cli.specs.steps.ClassLaws.{IsSampler, IsAtSize}
+use Rattle.pm_cli.proofs.OneMapAnswer.{IsMapRelation}
+use Rattle.pm_cli.proofs.PairTexts.{one_profile}
+use Rattle.pm_cli.proofs.TaskLaws.{counting_laws}
+use Rattle.pm_cli.proofs.WordTables.{looked_up, one_value}
 
 abbrev pub AreSamplers : Type 0
 AreSamplers = (c : Class) → IsSampler (sampler_of c)
@@ -50,3 +57,60 @@ most class.General = omega arith
 most class.Quartic = omega arith
 most class.Eulerian = omega arith
 most class.Bipartite = omega arith
+
+-- the counts of a class
+pub count_laws : AreSamplers → (c : Class) → IsMapRelation (class_at c).counts
+count_laws laws c =
+    let S : Sampler = sampler_of c in
+    let of : IsSampler S = laws c in
+    counting_laws S.most_edges S.answers (most c) of.one_answer of.some_answer
+
+-- some size of each class
+one_is_a_profile : IsProfile ((2, 1) ∷ [])
+one_is_a_profile = record { are_pairs = record { some = omega arith; right = right }; few = lit≤ tt } where
+  right : (k : ℕ) → k < 1 → IsRightPair ((2, 1) ∷ []) k
+  right zero l = record { even = refl; some = omega arith; few = omega arith; rising = omega arith; counted = omega arith }
+  right (suc k) l = absurd (omega arith)
+
+pub some_size : (c : Class) → HasSize c (λ at. at.is_size)
+some_size class.General = record { size = sizes.General 1; is_of = refl; holds = record { few = omega arith } }
+some_size class.Quartic = record { size = sizes.Quartic 1; is_of = refl; holds = record { some = omega arith; few = omega arith } }
+some_size class.Eulerian = record { size = sizes.Eulerian ((2, 1) ∷ []); is_of = refl; holds = one_is_a_profile }
+some_size class.Bipartite = record { size = sizes.Bipartite ((2, 1) ∷ []); is_of = refl; holds = one_is_a_profile }
+
+-- the words of the classes
+abbrev classes : List (List ℕ × Class)
+classes = (codes "general", class.General) ∷ (codes "quartic", class.Quartic) ∷ (codes "eulerian", class.Eulerian) ∷ (codes "bipartite", class.Bipartite) ∷ []
+
+class_found : (c : Class) → looked_up classes (class_word c) ≡ Some c
+class_found class.General = refl
+class_found class.Quartic = refl
+class_found class.Eulerian = refl
+class_found class.Bipartite = refl
+
+pub one_class : (a b : Class) → class_word a ≡ class_word b → a ≡ b
+one_class = one_value classes class_word class_found
+
+-- sizes of a class
+data IsOfClass : Class → Size → Type 0 where
+  general : (size : ℕ) → IsOfClass class.General (sizes.General size)
+  quartic : (size : ℕ) → IsOfClass class.Quartic (sizes.Quartic size)
+  eulerian : (profile : List (ℕ × ℕ)) → IsOfClass class.Eulerian (sizes.Eulerian profile)
+  bipartite : (profile : List (ℕ × ℕ)) → IsOfClass class.Bipartite (sizes.Bipartite profile)
+
+is_of_class : (size : Size) → IsOfClass (class_of size) size
+is_of_class (sizes.General size) = general size
+is_of_class (sizes.Quartic size) = quartic size
+is_of_class (sizes.Eulerian profile) = eulerian profile
+is_of_class (sizes.Bipartite profile) = bipartite profile
+
+one_size_of : (c : Class) (s t : Size) → IsOfClass c s → IsOfClass c t → IsSize s → IsSize t → size_word s ≡ size_word t → s ≡ t
+one_size_of _ _ _ (general a) (general b) x y e = let p = x.few in let q = y.few in ap sizes.General (decimal_injective a b (omega arith) (omega arith) e)
+one_size_of _ _ _ (quartic a) (quartic b) x y e = let p = x.few in let q = y.few in ap sizes.Quartic (decimal_injective a b (omega arith) (omega arith) e)
+one_size_of _ _ _ (eulerian a) (eulerian b) x y e = ap sizes.Eulerian (one_profile a b x y e)
+one_size_of _ _ _ (bipartite a) (bipartite b) x y e = ap sizes.Bipartite (one_profile a b x y e)
+
+-- a class and a size of it have their own words
+pub one_size : (s t : Size) → IsSize s → IsSize t → class_word (class_of s) ≡ class_word (class_of t) → size_word s ≡ size_word t → s ≡ t
+one_size s t x y c e =
+    one_size_of (class_of t) s t (subst (λ (class : Class). IsOfClass class s) (one_class (class_of s) (class_of t) c) (is_of_class s)) (is_of_class t) x y e

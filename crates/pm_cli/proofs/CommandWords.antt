@@ -4,24 +4,20 @@ use Rattle.std.specs.Prelude.{codes, decimal}
 use Rattle.std.proofs.lemmas.Bool.{cases_lt}
 use Rattle.std.proofs.lemmas.Fmt.{decimal_injective}
 use Rattle.pm_cli.specs.declared.class.Class.{Class}
-use Rattle.pm_cli.specs.declared.class.Class.TheVariants as class
 use Rattle.pm_cli.specs.declared.class.Size.{Size}
-use Rattle.pm_cli.specs.declared.class.Size.TheVariants as sizes
 use Rattle.pm_cli.specs.declared.command.Command.{Command}
 use Rattle.pm_cli.specs.declared.command.Command.TheVariants.{Reads, Makes}
-use Rattle.pm_cli.specs.declared.command.Reader.TheVariants.{CloseEulerian, OfMap, Check, Unsample, Sample}
-use Rattle.pm_cli.specs.declared.command.MapTask.TheVariants.{Print, OpenEulerian}
-use Rattle.pm_cli.specs.declared.command.Image.{Image}
-use Rattle.pm_cli.specs.declared.command.Image.TheVariants.{Canon}
+use Rattle.pm_cli.specs.declared.command.MapTask.{MapTask}
+use Rattle.pm_cli.specs.declared.command.Reader.TheVariants.{CloseEulerian, OpenEulerian, OfMap, Check, Unsample, Sample}
 use Rattle.pm_cli.specs.declared.command.Maker.TheVariants.{Draw, Trip}
-use Rattle.pm_cli.specs.declared.words.Verb.{Verb}
-use Rattle.pm_cli.specs.declared.words.Verb.TheVariants as verb
-use Rattle.pm_cli.specs.Classes.{IsSize, class_of}
-use Rattle.pm_cli.specs.Commands.{verb_word, class_word, size_word, AreDrawNumbers, verb_of, behind, spelling, IsCommand, Spells, Begins, IsNoCommand}
+use Rattle.pm_cli.specs.declared.command.Verb.{Verb}
+use Rattle.pm_cli.specs.declared.command.Verb.TheVariants as verb
+use Rattle.pm_cli.specs.Classes.{class_of, class_word, size_word}
+use Rattle.pm_cli.specs.Commands.{verb_word, AreDrawNumbers, verb_of, behind, spelling, IsCommand, Spells, Begins, IsNoCommand}
 use Rattle.pm_cli.specs.steps.Words.{StopsAt, AreBehind, IsBehind}
-use Rattle.pm_cli.proofs.PairTexts.{one_profile}
+use Rattle.pm_cli.proofs.ClassLaws.{one_class, one_size}
 use Rattle.pm_cli.proofs.StoppingWords.{first_words, later_words}
-use Rattle.pm_cli.proofs.WordTables.{one_verb, one_class}
+use Rattle.pm_cli.proofs.TaskLaws.{one_verb}
 
 -- equal fronts have equal shorter fronts
 front : (k j : ℕ) (xs ys : List (List ℕ)) → k ≤ j → take j xs ≡ take j ys → take k xs ≡ take k ys
@@ -35,8 +31,8 @@ front k j xs ys le e = sym (shorter k j xs le) ∙ ap (take k) e ∙ shorter k j
 -- a command stands behind its verb
 stands_behind : (command : Command) → IsCommand command → AreBehind (verb_of command) (behind command)
 stands_behind (Reads CloseEulerian) is = record { word = codes "eulerian"; is = refl; alone = refl }
-stands_behind (Reads (OfMap (Print image))) is = refl
-stands_behind (Reads (OfMap OpenEulerian)) is = record { word = codes "eulerian"; is = refl; alone = refl }
+stands_behind (Reads (OfMap task)) is = refl
+stands_behind (Reads OpenEulerian) is = record { word = codes "eulerian"; is = refl; alone = refl }
 stands_behind (Reads (Check class)) is = record { word = class_word class; is = (class, refl); alone = refl }
 stands_behind (Reads (Unsample class)) is = record { word = class_word class; is = (class, refl); alone = refl }
 stands_behind (Reads (Sample size)) is = record { size = size; admissible = is; are = refl }
@@ -48,8 +44,8 @@ stands_behind (Makes (Trip seed) size) is =
 -- and what stands behind a verb is some command
 some_command : (v : Verb) (words : List (List ℕ)) → AreBehind v words → (command : Command) × IsBehind v words command
 some_command verb.Close words is = (Reads CloseEulerian, record { is_command = tt; is_verb = refl; same = is.alone ∙ ap (λ (w : List ℕ). w ∷ []) is.is })
-some_command verb.Open words is = (Reads (OfMap OpenEulerian), record { is_command = tt; is_verb = refl; same = is.alone ∙ ap (λ (w : List ℕ). w ∷ []) is.is })
-some_command (verb.Print image) words is = (Reads (OfMap (Print image)), record { is_command = tt; is_verb = refl; same = is })
+some_command verb.Open words is = (Reads OpenEulerian, record { is_command = tt; is_verb = refl; same = is.alone ∙ ap (λ (w : List ℕ). w ∷ []) is.is })
+some_command (verb.OfMap task) words is = (Reads (OfMap task), record { is_command = tt; is_verb = refl; same = is })
 some_command verb.Check words is =
     let class = is.is in (Reads (Check class.0), record { is_command = tt; is_verb = refl; same = is.alone ∙ ap (λ (w : List ℕ). w ∷ []) class.1 })
 some_command verb.Unsample words is =
@@ -85,7 +81,7 @@ stops_at words k begins none = record {
 -- no verb stands first
 pub no_verb : (words : List (List ℕ)) → ((v : Verb) → take 1 words ≡ verb_word v ∷ [] → ⊥) → IsNoCommand words 0
 no_verb words none =
-    stops_at words 0 (record { command = Reads (OfMap (Print Canon)); is_command = tt; within = omega arith; same = refl }) (λ command is e. none (verb_of command) e)
+    stops_at words 0 (record { command = Reads CloseEulerian; is_command = tt; within = omega arith; same = refl }) (λ command is e. none (verb_of command) e)
 
 -- a verb stands first, and the words behind it are no such words
 pub stops_behind : (words : List (List ℕ)) (v : Verb) (rest : List (List ℕ)) (k : ℕ) → words ≡ verb_word v ∷ rest → StopsAt (AreBehind v) rest k → IsNoCommand words (1 + k)
@@ -109,35 +105,11 @@ pub spells_behind : (words : List (List ℕ)) (v : Verb) (rest : List (List ℕ)
 spells_behind words v rest command e is =
     record { is_command = is.is_command; same = e ∙ ap₂ (λ (u : Verb) (w : List (List ℕ)). verb_word u ∷ w) (sym is.is_verb) is.same }
 
--- sizes of a class
-data IsOfClass : Class → Size → Type 0 where
-  general : (size : ℕ) → IsOfClass class.General (sizes.General size)
-  quartic : (size : ℕ) → IsOfClass class.Quartic (sizes.Quartic size)
-  eulerian : (profile : List (ℕ × ℕ)) → IsOfClass class.Eulerian (sizes.Eulerian profile)
-  bipartite : (profile : List (ℕ × ℕ)) → IsOfClass class.Bipartite (sizes.Bipartite profile)
-
-is_of_class : (size : Size) → IsOfClass (class_of size) size
-is_of_class (sizes.General size) = general size
-is_of_class (sizes.Quartic size) = quartic size
-is_of_class (sizes.Eulerian profile) = eulerian profile
-is_of_class (sizes.Bipartite profile) = bipartite profile
-
-one_size_of : (c : Class) (s t : Size) → IsOfClass c s → IsOfClass c t → IsSize s → IsSize t → size_word s ≡ size_word t → s ≡ t
-one_size_of _ _ _ (general a) (general b) x y e = let p = x.few in let q = y.few in ap sizes.General (decimal_injective a b (omega arith) (omega arith) e)
-one_size_of _ _ _ (quartic a) (quartic b) x y e = let p = x.few in let q = y.few in ap sizes.Quartic (decimal_injective a b (omega arith) (omega arith) e)
-one_size_of _ _ _ (eulerian a) (eulerian b) x y e = ap sizes.Eulerian (one_profile a b x y e)
-one_size_of _ _ _ (bipartite a) (bipartite b) x y e = ap sizes.Bipartite (one_profile a b x y e)
-
--- a class and a size of it have their own words
-one_size : (s t : Size) → IsSize s → IsSize t → class_word (class_of s) ≡ class_word (class_of t) → size_word s ≡ size_word t → s ≡ t
-one_size s t x y c e =
-    one_size_of (class_of t) s t (subst (λ (class : Class). IsOfClass class s) (one_class (class_of s) (class_of t) c) (is_of_class s)) (is_of_class t) x y e
-
 -- the commands of a verb
 data IsOfVerb : Verb → Command → Type 0 where
   closes : IsOfVerb verb.Close (Reads CloseEulerian)
-  opens : IsOfVerb verb.Open (Reads (OfMap OpenEulerian))
-  prints : (image : Image) → IsOfVerb (verb.Print image) (Reads (OfMap (Print image)))
+  opens : IsOfVerb verb.Open (Reads OpenEulerian)
+  prints : (task : MapTask) → IsOfVerb (verb.OfMap task) (Reads (OfMap task))
   checks : (class : Class) → IsOfVerb verb.Check (Reads (Check class))
   unsamples : (class : Class) → IsOfVerb verb.Unsample (Reads (Unsample class))
   samples : (size : Size) → IsOfVerb verb.Sample (Reads (Sample size))
@@ -146,8 +118,8 @@ data IsOfVerb : Verb → Command → Type 0 where
 
 is_of_verb : (command : Command) → IsOfVerb (verb_of command) command
 is_of_verb (Reads CloseEulerian) = closes
-is_of_verb (Reads (OfMap (Print image))) = prints image
-is_of_verb (Reads (OfMap OpenEulerian)) = opens
+is_of_verb (Reads (OfMap task)) = prints task
+is_of_verb (Reads OpenEulerian) = opens
 is_of_verb (Reads (Check class)) = checks class
 is_of_verb (Reads (Unsample class)) = unsamples class
 is_of_verb (Reads (Sample size)) = samples size
@@ -166,7 +138,7 @@ one_count {s} {c} {t} {d} x y e = let p = x.few in let q = y.few in decimal_inje
 one_of_verb : (v : Verb) (a b : Command) → IsOfVerb v a → IsOfVerb v b → IsCommand a → IsCommand b → behind a ≡ behind b → a ≡ b
 one_of_verb _ _ _ closes closes x y e = refl
 one_of_verb _ _ _ opens opens x y e = refl
-one_of_verb _ _ _ (prints image) (prints _) x y e = refl
+one_of_verb _ _ _ (prints task) (prints _) x y e = refl
 one_of_verb _ _ _ (checks a) (checks b) x y e = ap (λ (class : Class). Reads (Check class)) (one_class a b (first_words e))
 one_of_verb _ _ _ (unsamples a) (unsamples b) x y e = ap (λ (class : Class). Reads (Unsample class)) (one_class a b (first_words e))
 one_of_verb _ _ _ (samples a) (samples b) x y e = ap (λ (size : Size). Reads (Sample size)) (one_size a b x y (first_words e) (first_words (later_words e)))

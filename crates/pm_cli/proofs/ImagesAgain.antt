@@ -15,15 +15,14 @@ use Rattle.pm_medial.proofs.WrittenLemmas.{medial_is_rooted}
 use Rattle.pm_mapfile.proofs.FileLimits.{within_limit}
 use Rattle.pm_general.proofs.DualsOfMaps.{dual_map, dual_map_is, map_to_dual, dual_back}
 use Rattle.pm_general.proofs.GeneralClass.{medial_map, medial_map_is}
-use Rattle.pm_cli.specs.declared.command.MapTask.TheVariants.{Print}
-use Rattle.pm_cli.specs.declared.command.Image.TheVariants.{Canon, Medial, Unmedial, Dual}
+use Rattle.pm_cli.specs.declared.command.MapTask.TheVariants.{Canon, Medial, Unmedial, Dual}
 use Rattle.pm_cli.specs.declared.command.Reader.TheVariants.{OfMap}
 use Rattle.pm_cli.specs.Answer.{AnswersReader}
 use Rattle.pm_cli.specs.Laws.{DualsReturn, MedialsReturn, UnmedialsReturn}
-use Rattle.pm_cli.specs.MapAnswers.{HasMap, told, HasCanonicalText, HasTextOf, has_medial, has_unmedial, task_relation}
+use Rattle.pm_cli.specs.MapAnswers.{HasMap, told, HasCanonicalText, HasTextOf, task_relation}
 use Rattle.pm_cli.proofs.OneMapAnswer.{one_map, rooted_map}
-use Rattle.pm_cli.proofs.OpenedAgain.{told_map}
-use Rattle.pm_cli.proofs.PrintedAgain.{read_back, medial_text, unmedial_text}
+use Rattle.pm_cli.proofs.OpenedAgain.{told_map, canon_map}
+use Rattle.pm_cli.proofs.PrintedAgain.{read_back}
 
 -- the map of a map file, by what is answered to it within a limit, and the text that `canon` answers
 record AreOfOneMap (P : RotationSystem → Type 0) (canonical : List ℕ) : Type 0 where
@@ -32,10 +31,10 @@ record AreOfOneMap (P : RotationSystem → Type 0) (canonical : List ℕ) : Type
   holds : P map
   is_text : HasCanonicalText map canonical
 
-one_file : (limit : ℕ) (P : RotationSystem → Type 0) (bytes canonical : List ℕ) → HasMap bytes limit P → AnswersReader (OfMap (Print Canon)) bytes (Ok canonical) → AreOfOneMap P canonical
+one_file : (limit : ℕ) (P : RotationSystem → Type 0) (bytes canonical : List ℕ) → HasMap bytes limit P → AnswersReader (OfMap Canon) bytes (Ok canonical) → AreOfOneMap P canonical
 one_file limit P bytes canonical x canonizes =
     let few = (rooted_map bytes limit x.residue x.map x.answered).few in
-    let y = told_map (task_relation (Print Canon)) bytes canonical (Ok canonical) canonizes refl in
+    let y = canon_map bytes canonical canonizes in
     let wide : HasMap bytes MAX_EDGES P = record { residue = x.residue; map = x.map; answered = within_limit bytes limit MAX_EDGES x.residue x.map few x.answered; holds = x.holds } in
     let same = one_map MAX_EDGES P (λ m. HasCanonicalText m canonical) bytes wide y in
     record { map = y.map; rooted = same.1; holds = subst P same.0 x.holds; is_text = y.holds }
@@ -65,7 +64,7 @@ dual_of_same m other again rooted also third of same =
 
 pub duals_return : DualsReturn AnswersReader
 duals_return bytes text canonical turns canonizes =
-    let x = told_map (task_relation (Print Dual)) bytes text (Ok text) turns refl in
+    let x = told_map (task_relation Dual) bytes text (Ok text) turns refl in
     let one = one_file MAX_EDGES (λ m. HasTextOf IsDualOf m text) bytes canonical x canonizes in
     let image = one.holds in
     let has = image.is_text in
@@ -85,47 +84,49 @@ duals_return bytes text canonical turns canonizes =
 
 pub medials_return : MedialsReturn AnswersReader
 medials_return bytes text canonical turns canonizes =
-    let relation = task_relation (Print Medial) in
+    let relation = task_relation Medial in
     let x = told_map relation bytes text (Ok text) turns refl in
-    let one = one_file relation.limit (λ m. relation.answers m (Ok text)) bytes canonical x canonizes in
-    let medial = medial_text one.map text (Ok text) one.holds refl in
-    let image = medial.text_of in
+    let one = one_file relation.limit (λ m. relation.text_of m text) bytes canonical x canonizes in
+    let image = one.holds in
     let has = image.is_text in
     let again = has.canonical in
     let rooted = canonical_map_is_rooted image.other again image.rooted has.is_canonical in
-    let long : length image.other.sigma ≡ 2 * length one.map.sigma = image.is_image.darts in
+    let long : length image.other.sigma ≡ 2 * length one.map.sigma = image.is_image.1.darts in
     let same_long : length image.other.sigma ≡ length again.sigma = has.is_canonical.is_same.1.darts in
     told canonical (record {
       residue = None;
       map = again;
       answered = read_back again MAX_EDGES text rooted rooted.few has.is_text;
-      holds = has_unmedial canonical (omega (arith, long, same_long, medial.some)) (record {
+      holds = record {
         other = one.map;
         rooted = one.rooted;
-        is_image = record {
-          rooted = one.rooted;
-          medial = structure_of image.other;
-          is_medial = image.is_image;
-          is_same = same_symmetric (structure_of image.other) (structure_of again) image.rooted.structure has.is_canonical.is_same;
-        };
+        is_image = (
+          omega (arith, long, same_long, image.is_image.0),
+          record {
+            rooted = one.rooted;
+            medial = structure_of image.other;
+            is_medial = image.is_image.1;
+            is_same = same_symmetric (structure_of image.other) (structure_of again) image.rooted.structure has.is_canonical.is_same;
+          },
+        );
         is_text = one.is_text;
-      });
+      };
     })
 
 pub unmedials_return : UnmedialsReturn AnswersReader
 unmedials_return bytes text canonical turns canonizes =
-    let x = told_map (task_relation (Print Unmedial)) bytes text (Ok text) turns refl in
-    let relation = task_relation (Print Unmedial) in
-    let one = one_file MAX_EDGES (λ m. relation.answers m (Ok text)) bytes canonical x canonizes in
-    let unmedial = unmedial_text one.map text (Ok text) one.holds refl in
-    let image = unmedial.text_of in
-    let of = image.is_image in
+    let relation = task_relation Unmedial in
+    let x = told_map relation bytes text (Ok text) turns refl in
+    let one = one_file MAX_EDGES (λ m. relation.text_of m text) bytes canonical x canonizes in
+    let image = one.holds in
+    let some_dart = image.is_image.0 in
+    let of = image.is_image.1 in
     let has = image.is_text in
     let again = has.canonical in
     let rooted = canonical_map_is_rooted image.other again image.rooted has.is_canonical in
-    let half : 2 * length image.other.sigma ≡ length one.map.sigma = (unmedial_counts one.map image.other one.rooted unmedial.some of).0 in
+    let half : 2 * length image.other.sigma ≡ length one.map.sigma = (unmedial_counts one.map image.other one.rooted some_dart of).0 in
     let same_long : length image.other.sigma ≡ length again.sigma = has.is_canonical.is_same.1.darts in
-    let some : 0 < length again.sigma = omega (arith, half, same_long, unmedial.some) in
+    let some : 0 < length again.sigma = omega (arith, half, same_long, some_dart) in
     let few : length again.sigma ≤ MAX_EDGES = omega (arith, half, same_long, one.rooted.few) in
     let is : IsMedialMap again (medial_map again) = medial_map_is again rooted in
     let same : Same of.medial (structure_of (medial_map again)) =
@@ -135,10 +136,10 @@ unmedials_return bytes text canonical turns canonizes =
       residue = None;
       map = again;
       answered = read_back again (MAX_EDGES / 2) text rooted (omega (arith, few)) has.is_text;
-      holds = has_medial canonical some (record {
+      holds = record {
         other = medial_map again;
         rooted = medial_is_rooted again (medial_map again) rooted some few is;
-        is_image = is;
+        is_image = (some, is);
         is_text = same_text (medial_map again) one.map canonical (same_symmetric (structure_of one.map) (structure_of (medial_map again)) one.rooted.structure around) one.is_text;
-      });
+      };
     })

@@ -28,6 +28,7 @@ pub mod SomeSampling
 pub mod SomeUnsampling
 pub mod Sizes
 pub mod StoppingWords
+pub mod TaskLaws
 pub mod TreeLines
 pub mod WholeDrawings
 pub mod WordTables

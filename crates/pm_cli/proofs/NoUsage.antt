@@ -10,15 +10,15 @@ use Rattle.pm_class.specs.declared.sample.UnsampleRefusal.TheVariants as pair
 use Rattle.pm_trees.specs.declared.tree.TreeRefusal.{TreeRefusal}
 use Rattle.pm_trees.specs.declared.tree.TreeRefusal.TheVariants as word
 use Rattle.pm_cli.specs.declared.command.Reader.{Reader}
-use Rattle.pm_cli.specs.declared.command.Reader.TheVariants.{CloseEulerian, OfMap, Check, Unsample, Sample}
+use Rattle.pm_cli.specs.declared.command.Reader.TheVariants.{CloseEulerian, OpenEulerian, OfMap, Check, Unsample, Sample}
 use Rattle.pm_cli.specs.declared.refusal.Refusal.{Refusal}
 use Rattle.pm_cli.specs.declared.refusal.Stop.{Stop}
 use Rattle.pm_cli.specs.declared.refusal.Stop.TheVariants.{Refused, Read, Write, Memory}
-use Rattle.pm_cli.specs.Answer.{checking, AnswersReader}
+use Rattle.pm_cli.specs.Answer.{AnswersReader}
 use Rattle.pm_cli.specs.Classes.{InClass, class_at, AtSize, sized}
 use Rattle.pm_cli.specs.Closing.{ClosesEulerian, closed, no_tree, matched}
 use Rattle.pm_cli.specs.Lines.{status_of_refusal, status_of_stop}
-use Rattle.pm_cli.specs.MapAnswers.{rule_of_lines, rule_of_class, RefusesFile, broken, makes_none, MapRelation, AnswersMap, told, no_map, breaks, task_relation}
+use Rattle.pm_cli.specs.MapAnswers.{rule_of_lines, rule_of_class, RefusesFile, broken, makes_none, MapRelation, AnswersMap, told, no_map, breaks, task_relation, opening}
 use Rattle.pm_cli.specs.Sampling.{Samples, sampled, no_list, not_valid}
 use Rattle.pm_cli.specs.TreeFile.{rule_of_word, RefusesTreeFile, broken as broken_line, no_tree as no_blossoming}
 use Rattle.pm_cli.specs.Unsampling.{rule_of_pair, Unsamples, unsampled, no_map as no_pair, refused}
@@ -95,8 +95,9 @@ by_tree bytes _ (matched bud h) e = cc
 
 by_reader : (reader : Reader) (bytes : List ℕ) (answer : Result (List ℕ) Refusal) → AnswersReader reader bytes answer → status_of_answer answer ≡ 2 → ⊥
 by_reader CloseEulerian bytes answer h e = by_tree bytes answer h e
+by_reader OpenEulerian bytes answer h e = by_map opening bytes answer h e
 by_reader (OfMap task) bytes answer h e = by_map (task_relation task) bytes answer h e
-by_reader (Check class) bytes answer h e = by_map (checking (class_at class)) bytes answer h e
+by_reader (Check class) bytes answer h e = by_map (class_at class).counts bytes answer h e
 by_reader (Unsample class) bytes answer h e = by_pair (class_at class) bytes answer h e
 by_reader (Sample size) bytes answer h e = by_choices (sized size) bytes answer h e
 

@@ -2,26 +2,25 @@
 use Rattle.std.proofs.Common.{◌≡◌, ℕ, List, refl, ap, subst, arith}
 use Rattle.std.specs.Prelude.{Result, Err}
 use Rattle.pm_class.specs.OneToOne.{AreOneToOne}
-use Rattle.pm_class.specs.Sampling.{HasOneAnswer as HasOneSize}
 use Rattle.pm_cli.specs.declared.class.Class.{Class}
 use Rattle.pm_cli.specs.declared.class.Size.{Size}
 use Rattle.pm_cli.specs.declared.command.Command.TheVariants.{Reads, Makes}
 use Rattle.pm_cli.specs.declared.command.Maker.{Maker}
 use Rattle.pm_cli.specs.declared.command.Maker.TheVariants.{Draw, Trip}
 use Rattle.pm_cli.specs.declared.command.Reader.{Reader}
-use Rattle.pm_cli.specs.declared.command.Reader.TheVariants.{CloseEulerian, OfMap, Check, Unsample, Sample}
+use Rattle.pm_cli.specs.declared.command.Reader.TheVariants.{CloseEulerian, OpenEulerian, OfMap, Check, Unsample, Sample}
 use Rattle.pm_cli.specs.declared.refusal.Refusal.{Refusal}
 use Rattle.pm_cli.specs.declared.refusal.Refusal.TheVariants.{Usage}
-use Rattle.pm_cli.specs.Answer.{checking, AnswersReader, AnswersSize, no_command, too_long, of_file, of_size}
-use Rattle.pm_cli.specs.Classes.{Sampler, sampler_of, AtSize, sized, IsSize, InClass, class_at}
+use Rattle.pm_cli.specs.Answer.{AnswersReader, AnswersSize, no_command, too_long, of_file, of_size}
+use Rattle.pm_cli.specs.Classes.{sampler_of, AtSize, sized, IsSize, InClass, class_at}
 use Rattle.pm_cli.specs.Commands.{IsReader}
 use Rattle.pm_cli.specs.Laws.{HasOneAnswer}
-use Rattle.pm_cli.specs.MapAnswers.{task_relation}
-use Rattle.pm_cli.specs.steps.ClassLaws.{IsSampler}
-use Rattle.pm_cli.proofs.ClassLaws.{AreSamplers, sized_laws}
+use Rattle.pm_cli.specs.MapAnswers.{task_relation, opening}
+use Rattle.pm_cli.proofs.ClassLaws.{AreSamplers, sized_laws, count_laws}
 use Rattle.pm_cli.proofs.CommandWords.{one_command}
 use Rattle.pm_cli.proofs.OneClosing.{closes_once}
-use Rattle.pm_cli.proofs.OneMapAnswer.{map_answers_once, one_counting, one_task}
+use Rattle.pm_cli.proofs.OneMapAnswer.{map_answers_once}
+use Rattle.pm_cli.proofs.TaskLaws.{task_laws, opening_laws}
 use Rattle.pm_cli.proofs.OneSampling.{samples_once, draws_once, trips_once}
 use Rattle.pm_cli.proofs.OneUnsampling.{HasOneUnsampling, one_unsampling, unsamples_once}
 
@@ -35,20 +34,15 @@ module _ (laws : AreSamplers) where
   one_at : (size : Size) → IsSize size → (let at : AtSize = sized size in AreOneToOne at.choice_limits at.residue_limits at.has at.samples)
   one_at size is = let at = sized_laws laws size is in at.one_to_one
 
-  one_count : (c : Class) → HasOneSize (let at : InClass = class_at c in at.counts)
-  one_count c =
-      let S : Sampler = sampler_of c in
-      let is : IsSampler S = laws c in
-      one_counting S.answers is.one_answer
-
   one_pair : (c : Class) → HasOneUnsampling (let at : InClass = class_at c in at.unsamples)
   one_pair c = one_unsampling (sampler_of c) (laws c)
 
   -- a command has one answer to a file
   reads_once : (reader : Reader) → IsReader reader → (bytes : List ℕ) (a b : Result (List ℕ) Refusal) → AnswersReader reader bytes a → AnswersReader reader bytes b → a ≡ b
   reads_once CloseEulerian is bytes a b x y = closes_once bytes a b x y
-  reads_once (OfMap task) is bytes a b x y = map_answers_once (task_relation task) (one_task task) bytes a b x y
-  reads_once (Check class) is bytes a b x y = map_answers_once (checking (class_at class)) (one_count class) bytes a b x y
+  reads_once OpenEulerian is bytes a b x y = map_answers_once opening opening_laws bytes a b x y
+  reads_once (OfMap task) is bytes a b x y = map_answers_once (task_relation task) (task_laws task) bytes a b x y
+  reads_once (Check class) is bytes a b x y = map_answers_once (class_at class).counts (count_laws laws class) bytes a b x y
   reads_once (Unsample class) is bytes a b x y = unsamples_once (class_at class) (one_pair class) bytes a b x y
   reads_once (Sample size) is bytes a b x y = let one = one_at size is in samples_once (sized size) one.one_sample (λ c m r h. let only = one.only c m r h in only.valid) bytes a b x y
 

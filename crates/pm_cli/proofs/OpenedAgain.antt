@@ -15,28 +15,28 @@ use Rattle.pm_cli.specs.declared.refusal.Refusal.{Refusal}
 use Rattle.pm_cli.specs.Answer.{AnswersReader}
 use Rattle.pm_cli.specs.Laws.{ClosedTreesOpen, OpenedMapsClose}
 use Rattle.pm_cli.specs.Closing.{ClosesTo, ClosesEulerian, closed, no_tree, matched}
-use Rattle.pm_cli.specs.MapAnswers.{HasMap, MapRelation, AnswersMap, told, no_map, breaks, HasCanonicalText, HasOpenText, Opens, opened, no_dart, other_degree, task_relation}
+use Rattle.pm_cli.specs.MapAnswers.{HasMap, MapRelation, AnswersMap, told, no_map, breaks, HasCanonicalText, HasOpenText, task_relation, opening}
 use Rattle.pm_cli.specs.TreeFile.{HasWord}
-use Rattle.pm_cli.specs.declared.command.MapTask.TheVariants.{Print, OpenEulerian}
-use Rattle.pm_cli.specs.declared.command.Reader.TheVariants.{OfMap}
-use Rattle.pm_cli.specs.declared.command.Image.TheVariants.{Canon}
-use Rattle.pm_map.specs.declared.class_refusal.ClassRefusal.{ClassRefusal}
-use Rattle.pm_cli.proofs.OneMapAnswer.{one_map, same_value}
+use Rattle.pm_cli.specs.declared.command.MapTask.TheVariants.{Canon}
+use Rattle.pm_cli.specs.declared.command.Reader.TheVariants.{OpenEulerian, OfMap}
+use Rattle.pm_cli.proofs.OneMapAnswer.{one_map}
 
 same_text : {a b : List ℕ} → ◌≡◌ {A = Result (List ℕ) Refusal} (Ok a) (Ok b) → a ≡ b
 same_text e = cc
 
 -- what is answered by a text to a map file, is told to its map
 pub told_map : (relation : MapRelation) (bytes text : List ℕ) (answer : Result (List ℕ) Refusal) → AnswersMap relation bytes answer → answer ≡ Ok text
-    → HasMap bytes relation.limit (λ m. relation.answers m (Ok text))
-told_map relation bytes text _ (told other h) e = subst (λ (t : List ℕ). HasMap bytes relation.limit (λ m. relation.answers m (Ok t))) (same_text e) h
+    → HasMap bytes relation.limit (λ m. relation.text_of m text)
+told_map relation bytes text _ (told other h) e = subst (λ (t : List ℕ). HasMap bytes relation.limit (λ m. relation.text_of m t)) (same_text e) h
 told_map relation bytes text _ (no_map refusal h) e = cc
 told_map relation bytes text _ (breaks refusal why rule h) e = cc
 
-open_text : (m : RotationSystem) (text : List ℕ) (answer : Result (List ℕ) ClassRefusal) → Opens m answer → answer ≡ Ok text → HasOpenText m text
-open_text m text _ (opened other h) e = subst (HasOpenText m) (same_value e) h
-open_text m text _ (no_dart h) e = cc
-open_text m text _ (other_degree dart h) e = cc
+-- so is the canonical text that `canon` answers
+pub canon_map : (bytes text : List ℕ) → AnswersReader (OfMap Canon) bytes (Ok text) → HasMap bytes MAX_EDGES (λ m. HasCanonicalText m text)
+canon_map bytes text canonizes =
+    let x = told_map (task_relation Canon) bytes text (Ok text) canonizes refl in
+    let of = x.holds in
+    record { residue = x.residue; map = x.map; answered = x.answered; holds = subst (λ (m : RotationSystem). HasCanonicalText m text) of.is_image of.is_text }
 
 pub closed_word : (bytes text : List ℕ) (answer : Result (List ℕ) Refusal) → ClosesEulerian bytes answer → answer ≡ Ok text → HasWord bytes (ClosesTo text)
 closed_word bytes text _ (closed other h) e = subst (λ (t : List ℕ). HasWord bytes (ClosesTo t)) (same_text e) h
@@ -56,7 +56,7 @@ opened_again bytes text is =
       answered =
           subst (λ (file : List ℕ). AnswersFile file MAX_EDGES None (Ok closing.canonical)) (append-nil text)
           (map_file_is_read_again closing.canonical MAX_EDGES text [] None canonical canonical.few closing.is_text (record { fit = tt; spelled = refl }));
-      holds = opened bytes (record {
+      holds = record {
         word = closes.word;
         opened = record {
           blossoming = closing.blossoming;
@@ -66,16 +66,16 @@ opened_again bytes text is =
           same = same_symmetric (structure_of closing.closed) (structure_of closing.canonical) rooted.structure closing.is_canonical.is_same;
         };
         is_text = closes.spelled;
-      });
+      };
     })
 
 -- the tree of an opened map closes to the same map, whose canonical map is that of the map
 pub closed_again : OpenedMapsClose AnswersReader
 closed_again bytes text canonical opens canonizes =
-    let x = told_map (task_relation OpenEulerian) bytes text (Ok text) opens refl in
-    let y = told_map (task_relation (Print Canon)) bytes canonical (Ok canonical) canonizes refl in
-    let same = one_map MAX_EDGES (λ m. Opens m (Ok text)) (λ m. HasCanonicalText m canonical) bytes x y in
-    let tree = open_text y.map text (Ok text) (subst (λ (m : RotationSystem). Opens m (Ok text)) same.0 x.holds) refl in
+    let x = told_map opening bytes text (Ok text) opens refl in
+    let y = canon_map bytes canonical canonizes in
+    let same = one_map MAX_EDGES (λ m. HasOpenText m text) (λ m. HasCanonicalText m canonical) bytes x y in
+    let tree = subst (λ (m : RotationSystem). HasOpenText m text) same.0 x.holds in
     let map : RotationSystem = y.map in
     let is = tree.opened in
     let has = y.holds in
@@ -98,9 +98,9 @@ closed_again bytes text canonical opens canonizes =
     })
 
 -- a tree file of an opening is within the limit of bytes
-pub opened_within : (bytes text : List ℕ) → AnswersReader (OfMap OpenEulerian) bytes (Ok text) → length text ≤ MAX_BYTES
+pub opened_within : (bytes text : List ℕ) → AnswersReader OpenEulerian bytes (Ok text) → length text ≤ MAX_BYTES
 opened_within bytes text opens =
-    let x = told_map (task_relation OpenEulerian) bytes text (Ok text) opens refl in
-    let tree = open_text x.map text (Ok text) x.holds refl in
+    let x = told_map opening bytes text (Ok text) opens refl in
+    let tree = x.holds in
     let short = tree.opened.blossoming.short in
     omega (arith, short, ap length tree.is_text.spelled, length-append (codes "tree ") (tree.word ++ newline ∷ []), length-append tree.word (newline ∷ []))

@@ -1,18 +1,19 @@
 -- What refuses a file, passed on.
 use Rattle.std.proofs.Common.{◌≡◌, ℕ, List, sym, subst}
-use Rattle.std.specs.Prelude.{None, Some, Result, Ok, Err, Vec}
+use Rattle.std.specs.Prelude.{Option, None, Some, Result, Ok, Err, Vec}
 use Rattle.std.specs.Result.{IsErrAnd}
 use Rattle.std.specs.declared.alloc.Global.{Global}
 use Rattle.pm_map.specs.declared.refusal.MapRefusal.{MapRefusal}
 use Rattle.pm_map.specs.declared.rooted_map.RootedMap.{RootedMap}
-use Rattle.pm_mapfile.specs.Answers.{IsAnswerOfForm}
+use Rattle.pm_map.specs.Rotation.{RotationSystem}
+use Rattle.pm_mapfile.specs.Answers.{AnswersFile, IsAnswerOfForm}
 use Rattle.pm_mapfile.specs.declared.refusal.FileRefusal.{FileRefusal}
 use Rattle.pm_mapfile.specs.declared.refusal.FileRefusal.TheVariants as reading
 use Rattle.pm_cli.specs.declared.refusal.Refusal.{Refusal}
 use Rattle.pm_cli.specs.declared.refusal.Stop.{Stop}
 use Rattle.pm_cli.specs.declared.refusal.Stop.TheVariants.{Refused, Read, Write, Memory}
-use Rattle.pm_cli.specs.MapAnswers.{RefusesFile, broken, makes_none}
-use Rattle.pm_cli.specs.steps.Answering.{StopsBy, IsAnswerBy}
+use Rattle.pm_cli.specs.MapAnswers.{RefusesFile, broken, makes_none, RefusesMapFile, MapRelation, AnswersMap, told, no_map, breaks}
+use Rattle.pm_cli.specs.steps.Answering.{StopsBy, IsAnswerBy, AnswersTo, tells, breaks_rule}
 use Rattle.pm_cli.specs.steps.MapReading.{rule_of_file}
 
 -- a refusal of one kind is one of another
@@ -41,3 +42,20 @@ pub file_refused : {Read : Type 0} (form : List ℕ → Type 0) (reads : Read �
 file_refused {Read} form reads bytes (reading.Text line) h refusal rule = subst (RefusesFile form (λ made. (read : Read) × reads read (Err made)) bytes) (some_same rule) (broken line h)
 file_refused form reads bytes (reading.Map made) h refusal rule = makes_none refusal made rule h.0
 file_refused form reads bytes reading.Memory h refusal rule = absurd (no_rule rule)
+
+-- what is answered to the map of a file, is answered to the file
+module _ (relation : MapRelation) (bytes : List ℕ) (residue : Option (List ℕ)) (map : RotationSystem) (file : AnswersFile bytes relation.limit residue (Ok map)) where
+  answered : (answer : Result (List ℕ) Refusal) → AnswersTo relation map answer → AnswersMap relation bytes answer
+  answered _ (tells text is) = told text (record { residue = residue; map = map; answered = file; holds = is })
+  answered _ (breaks_rule refusal why rule is) = breaks refusal why rule (record { residue = residue; map = map; answered = file; holds = is })
+
+  pub answered_map : (result : Result (Vec ℕ Global) Stop) → IsAnswerBy (AnswersTo relation map) result → IsAnswerBy (AnswersMap relation bytes) result
+  answered_map (Ok text) h = answered (Ok text.items) h
+  answered_map (Err stop) h =
+      stopped (λ refusal. AnswersTo relation map (Err refusal)) (λ refusal. AnswersMap relation bytes (Err refusal)) (λ refusal is. answered (Err refusal) is) stop h
+
+-- a map file that is refused
+pub file_passed_on : (relation : MapRelation) (bytes : List ℕ) (stop : Stop) (result : Result (Vec ℕ Global) Stop) → StopsBy (RefusesMapFile relation.limit bytes) stop
+    → IsErrAnd result (λ s. s ≡ stop) → IsAnswerBy (AnswersMap relation bytes) result
+file_passed_on relation bytes stop result h is =
+    passed_on (AnswersMap relation bytes) (RefusesMapFile relation.limit bytes) (λ refusal refused. no_map refusal refused) stop result h is

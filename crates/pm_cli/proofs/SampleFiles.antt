@@ -14,7 +14,7 @@ use Rattle.pm_mapfile.proofs.ReadAgainLemmas.{map_file_is_read_again}
 use Rattle.pm_mapfile.proofs.TextLengths.{sample_file_few}
 use Rattle.pm_cli.specs.declared.class.Size.{Size}
 use Rattle.pm_cli.specs.declared.refusal.Refusal.{Refusal}
-use Rattle.pm_cli.specs.Answer.{checking, AnswersReader}
+use Rattle.pm_cli.specs.Answer.{AnswersReader}
 use Rattle.pm_cli.specs.Classes.{Sampler, AtSize, at_size, sized, IsSize, in_class}
 use Rattle.pm_cli.specs.Laws.{IsCounted, SampledListsReturn, SampledMapsAreCounted}
 use Rattle.pm_cli.specs.MapAnswers.{AnswersMap, told}
@@ -89,7 +89,7 @@ module _ (S : Sampler) (laws : IsSampler S) (size : S.Measure) (is : S.is_size s
         };
       })
 
-  counted_again : Samples (at_size S size) bytes (Ok text) → HasChoices bytes (λ choices. IsCounted (S.samples size choices) (λ line. AnswersMap (checking (in_class S)) text (Ok line)))
+  counted_again : Samples (at_size S size) bytes (Ok text) → HasChoices bytes (λ choices. IsCounted (S.samples size choices) (λ line. AnswersMap (in_class S).counts text (Ok line)))
   counted_again samples =
       let x = read_sample samples in
       let member = x.of_class.member in
@@ -125,7 +125,7 @@ sampled_lists_return laws size bytes text is samples =
 
 pub sampled_maps_are_counted : AreSamplers → SampledMapsAreCounted AnswersReader
 sampled_maps_are_counted laws size bytes text is samples =
-    by_size (λ class at. Samples at bytes (Ok text) → HasChoices bytes (λ choices. IsCounted (at.samples choices) (λ line. AnswersMap (checking class) text (Ok line))))
+    by_size (λ class at. Samples at bytes (Ok text) → HasChoices bytes (λ choices. IsCounted (at.samples choices) (λ line. AnswersMap class.counts text (Ok line))))
     (λ S of measure fits. counted_again S of measure fits bytes text) laws size is samples
 
 -- the text of a sample is within the limit of bytes

@@ -14,19 +14,17 @@ use Rattle.pm_mapfile.specs.MapText.{IsMapText}
 use Rattle.pm_mapfile.proofs.FileLimits.{within_limit}
 use Rattle.pm_mapfile.proofs.TextLengths.{choices_file_few}
 use Rattle.pm_cli.specs.declared.class.Class.{Class}
-use Rattle.pm_cli.specs.declared.command.MapTask.TheVariants.{Print}
-use Rattle.pm_cli.specs.declared.command.Image.TheVariants.{Canon}
 use Rattle.pm_cli.specs.declared.refusal.Refusal.{Refusal}
 use Rattle.pm_cli.specs.Answer.{AnswersReader}
 use Rattle.pm_cli.specs.Classes.{InClass, class_at, AtSize, Sampler, sampler_of}
 use Rattle.pm_cli.specs.Laws.{UnsampledPairsReturn}
-use Rattle.pm_cli.specs.MapAnswers.{HasMap, HasCanonicalText, task_relation}
+use Rattle.pm_cli.specs.MapAnswers.{HasMap, HasCanonicalText}
 use Rattle.pm_cli.specs.Sampling.{sampled}
 use Rattle.pm_cli.specs.Unsampling.{HasPair, HasUnsampledText, Unsamples, unsampled, no_map, refused}
 use Rattle.pm_cli.specs.steps.ClassLaws.{IsSampler}
 use Rattle.pm_cli.proofs.ClassLaws.{AreSamplers, HasSize, of_measure}
 use Rattle.pm_cli.proofs.OneMapAnswer.{one_map, rooted_map, same_value}
-use Rattle.pm_cli.proofs.OpenedAgain.{told_map}
+use Rattle.pm_cli.proofs.OpenedAgain.{canon_map}
 
 -- a pair that was unsampled, sampled again: at the size of the map the choices give its canonical map, and the residue
 record IsGivenBack (map : RotationSystem) (residue choices : List ℕ) (at : AtSize) : Type 0 where
@@ -73,7 +71,7 @@ unsampled_within laws c bytes text unsamples =
 pub sampled_again : AreSamplers → UnsampledPairsReturn AnswersReader
 sampled_again laws c bytes text canonical unsamples canonizes =
     let at : InClass = class_at c in
-    let y = told_map (task_relation (Print Canon)) bytes canonical (Ok canonical) canonizes refl in
+    let y = canon_map bytes canonical canonizes in
     let of : RotationSystem → List ℕ → Type 0 = λ m residue. HasUnsampledText (at.unsamples m residue) text in
     let x = unsampled_pair at bytes text (Ok text) unsamples refl in
     let residue : List ℕ = x.residue in

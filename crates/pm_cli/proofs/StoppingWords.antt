@@ -1,18 +1,16 @@
 -- How many words begin words of a set.
-use Rattle.std.proofs.Common.{◌≡◌, ℕ, true, false, zero, suc, ◌+◌, ◌^◌, ◌<◌, ◌≤◌, lit≤, List, [], ◌∷◌, length, take, map, refl, sym, ap, ◌∙◌, subst, arith}
+use Rattle.std.proofs.Common.{◌≡◌, ℕ, true, false, zero, suc, ◌+◌, ◌^◌, ◌<◌, ◌≤◌, List, [], ◌∷◌, length, take, map, refl, sym, ap, ◌∙◌, subst, arith}
 use Rattle.std.specs.Prelude.{decimal, IsTrue, ◌==◌}
 use Rattle.std.proofs.lemmas.Bool.Decides.{nat_tests}
 use Rattle.std.proofs.lemmas.List.{length-map}
-use Rattle.pm_trees.specs.Pairs.{IsRightPair, IsProfile}
 use Rattle.pm_cli.specs.declared.class.Class.{Class}
 use Rattle.pm_cli.specs.declared.class.Class.TheVariants as class
 use Rattle.pm_cli.specs.declared.class.Size.{Size}
-use Rattle.pm_cli.specs.declared.class.Size.TheVariants as sizes
 use Rattle.pm_cli.specs.declared.words.TheConstants.{MAX_RECORDS}
-use Rattle.pm_cli.specs.Classes.{IsSize, class_of}
-use Rattle.pm_cli.specs.Commands.{class_word, size_word, size_words, number_words, AreDrawNumbers}
+use Rattle.pm_cli.specs.Classes.{IsSize, class_of, class_word, size_word}
+use Rattle.pm_cli.specs.Commands.{size_words, number_words, AreDrawNumbers}
 use Rattle.pm_cli.specs.steps.Words.{StopsAt, IsOneOf, AreSizeWords, AreNumberWords, AreSizedWords}
-use Rattle.pm_cli.proofs.WordTables.{one_class}
+use Rattle.pm_cli.proofs.ClassLaws.{one_class, some_size}
 
 -- no words
 pub no_words : {X : Type 0} (f : X → List ℕ) (xs : List X) → length xs ≡ 0 → map f xs ≡ []
@@ -79,24 +77,6 @@ module _ (P : List ℕ → Type 0) (some : List ℕ) (good : P some) where
     no_more = λ other h same. no_word_more rest more (later_words (ap (take 2) (sym e) ∙ same ∙ ap (take 2) h.alone));
   }
 
--- some size of each class
-one_is_a_profile : IsProfile ((2, 1) ∷ [])
-one_is_a_profile = record { are_pairs = record { some = omega arith; right = right }; few = lit≤ tt } where
-  right : (k : ℕ) → k < 1 → IsRightPair ((2, 1) ∷ []) k
-  right zero l = record { even = refl; some = omega arith; few = omega arith; rising = omega arith; counted = omega arith }
-  right (suc k) l = absurd (omega arith)
-
-record HasSize (class : Class) : Type 0 where
-  size : Size
-  is_of : class_of size ≡ class
-  admissible : IsSize size
-
-some_size : (class : Class) → HasSize class
-some_size class.General = record { size = sizes.General 1; is_of = refl; admissible = record { few = omega arith } }
-some_size class.Quartic = record { size = sizes.Quartic 1; is_of = refl; admissible = record { some = omega arith; few = omega arith } }
-some_size class.Eulerian = record { size = sizes.Eulerian ((2, 1) ∷ []); is_of = refl; admissible = one_is_a_profile }
-some_size class.Bipartite = record { size = sizes.Bipartite ((2, 1) ∷ []); is_of = refl; admissible = one_is_a_profile }
-
 size_set : (size : Size) → IsSize size → AreSizeWords (size_words size [])
 size_set size is = record { size = size; admissible = is; are = refl }
 
@@ -104,7 +84,7 @@ size_set size is = record { size = size; admissible = is; are = refl }
 pub no_class_first : (words : List (List ℕ)) → ((size : Size) → take 1 words ≡ class_word (class_of size) ∷ [] → ⊥) → StopsAt AreSizeWords words 0
 no_class_first words none =
     let some = some_size class.Quartic in
-    none_begins AreSizeWords words (size_words some.size []) (size_set some.size some.admissible) (λ other is e. none is.size (e ∙ ap (take 1) is.are))
+    none_begins AreSizeWords words (size_words some.size []) (size_set some.size some.holds) (λ other is e. none is.size (e ∙ ap (take 1) is.are))
 
 -- a class, and no size of it behind
 pub no_size_behind : (words rest : List (List ℕ)) (class : Class) → words ≡ class_word class ∷ rest
@@ -113,7 +93,7 @@ no_size_behind words rest class e none =
     let some = some_size class in
     record {
       whole = size_words some.size [];
-      is_in = size_set some.size some.admissible;
+      is_in = size_set some.size some.holds;
       within = omega (arith, ap length e);
       same = ap (take 1) e ∙ ap (λ (c : Class). class_word c ∷ []) (sym some.is_of);
       no_more = λ other is same.

@@ -6,7 +6,7 @@ use Rattle.pm_cli.specs.declared.command.Command.TheVariants.{Reads, Makes}
 use Rattle.pm_cli.specs.declared.command.Maker.{Maker}
 use Rattle.pm_cli.specs.declared.command.Maker.TheVariants.{Draw, Trip}
 use Rattle.pm_cli.specs.declared.command.Reader.{Reader}
-use Rattle.pm_cli.specs.declared.command.Reader.TheVariants.{CloseEulerian, OfMap, Check, Unsample, Sample}
+use Rattle.pm_cli.specs.declared.command.Reader.TheVariants.{CloseEulerian, OpenEulerian, OfMap, Check, Unsample, Sample}
 use Rattle.pm_cli.specs.declared.refusal.Limit.TheVariants.{Bytes}
 use Rattle.pm_cli.specs.declared.refusal.Refusal.{Refusal}
 use Rattle.pm_cli.specs.declared.refusal.Refusal.TheVariants.{Usage, Limited}
@@ -14,20 +14,17 @@ use Rattle.pm_cli.specs.Classes.{AtSize, sized, InClass, class_at}
 use Rattle.pm_cli.specs.Closing.{ClosesEulerian}
 use Rattle.pm_cli.specs.Commands.{Spells, IsNoCommand}
 use Rattle.pm_cli.specs.Drawing.{Draws}
-use Rattle.pm_cli.specs.MapAnswers.{MapRelation, AnswersMap, task_relation}
+use Rattle.pm_cli.specs.MapAnswers.{AnswersMap, task_relation, opening}
 use Rattle.pm_cli.specs.Sampling.{Samples}
 use Rattle.pm_cli.specs.Trip.{Trips}
 use Rattle.pm_cli.specs.Unsampling.{Unsamples}
 
--- the check of a class
-abbrev pub checking : InClass → MapRelation
-checking class = record { limit = class.most_edges; answers = class.counts }
-
 -- what a command answers to a file within the limit
 abbrev pub AnswersReader : Reader → List ℕ → Result (List ℕ) Refusal → Type 0
 AnswersReader CloseEulerian bytes answer = ClosesEulerian bytes answer
+AnswersReader OpenEulerian bytes answer = AnswersMap opening bytes answer
 AnswersReader (OfMap task) bytes answer = AnswersMap (task_relation task) bytes answer
-AnswersReader (Check class) bytes answer = AnswersMap (checking (class_at class)) bytes answer
+AnswersReader (Check class) bytes answer = AnswersMap (let at : InClass = class_at class in at.counts) bytes answer
 AnswersReader (Unsample class) bytes answer = Unsamples (class_at class) bytes answer
 AnswersReader (Sample size) bytes answer = Samples (sized size) bytes answer
 

@@ -1,5 +1,5 @@
 -- The classes of maps, as bundles of what each says of sizes, maps and lists.
-use Rattle.std.specs.Prelude.{ℕ, ◌/◌, List, Result}
+use Rattle.std.specs.Prelude.{ℕ, ◌/◌, List, Result, codes, decimal}
 use Rattle.pm_limits.specs.declared.TheConstants.{MAX_EDGES}
 use Rattle.pm_trees.specs.Pairs.{IsProfile}
 use Rattle.pm_map.specs.declared.class_refusal.ClassRefusal.{ClassRefusal}
@@ -17,7 +17,8 @@ use Rattle.pm_cli.specs.declared.class.Class.{Class}
 use Rattle.pm_cli.specs.declared.class.Class.TheVariants as class
 use Rattle.pm_cli.specs.declared.class.Size.{Size}
 use Rattle.pm_cli.specs.declared.class.Size.TheVariants as sizes
-use Rattle.pm_cli.specs.MapAnswers.{CountsIn}
+use Rattle.pm_cli.specs.MapAnswers.{MapRelation, counting}
+use Rattle.pm_cli.specs.ProfileWord.{profile_text}
 
 -- a class: its sizes, the most edges, the bounds of choices and residues, its maps, what a map is answered, and what
 -- choices give
@@ -118,14 +119,27 @@ class_of (sizes.Quartic size) = class.Quartic
 class_of (sizes.Eulerian profile) = class.Eulerian
 class_of (sizes.Bipartite profile) = class.Bipartite
 
--- a class at its maps: the most edges, what a map is told in place of its size, and what is unsampled of a map and a residue
+-- a class at its maps: the most edges, what a map is told of its counts, and what is unsampled of a map and a residue
 pub record InClass : Type 1 where
   pub most_edges : ℕ
-  pub counts : RotationSystem → Result (List ℕ) ClassRefusal → Type 0
+  pub counts : MapRelation
   pub unsamples : RotationSystem → List ℕ → Result (List ℕ) UnsampleRefusal → Type 0
 
 abbrev pub in_class : Sampler → InClass
-in_class S = record { most_edges = S.most_edges; counts = CountsIn S.answers; unsamples = IsUnsampling S.choice_limits S.residue_limits S.samples S.answers }
+in_class S = record { most_edges = S.most_edges; counts = counting S.most_edges S.answers; unsamples = IsUnsampling S.choice_limits S.residue_limits S.samples S.answers }
 
 abbrev pub class_at : Class → InClass
 class_at class = in_class (sampler_of class)
+
+-- the words of classes and of their sizes
+abbrev pub class_word : Class → List ℕ
+class_word class.General = codes "general"
+class_word class.Quartic = codes "quartic"
+class_word class.Eulerian = codes "eulerian"
+class_word class.Bipartite = codes "bipartite"
+
+abbrev pub size_word : Size → List ℕ
+size_word (sizes.General size) = decimal size
+size_word (sizes.Quartic size) = decimal size
+size_word (sizes.Eulerian profile) = profile_text profile
+size_word (sizes.Bipartite profile) = profile_text profile

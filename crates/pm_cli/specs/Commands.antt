@@ -1,47 +1,30 @@
 -- The words that spell a command.
 use Rattle.std.specs.Prelude.{◌≡◌, ℕ, ◌<◌, ◌≤◌, ◌^◌, List, [], ◌∷◌, length, take, codes, decimal, ⊤}
-use Rattle.pm_cli.specs.declared.class.Class.{Class}
-use Rattle.pm_cli.specs.declared.class.Class.TheVariants as class
 use Rattle.pm_cli.specs.declared.class.Size.{Size}
-use Rattle.pm_cli.specs.declared.class.Size.TheVariants as sizes
 use Rattle.pm_cli.specs.declared.command.Command.{Command}
 use Rattle.pm_cli.specs.declared.command.Command.TheVariants.{Reads, Makes}
 use Rattle.pm_cli.specs.declared.command.Reader.{Reader}
-use Rattle.pm_cli.specs.declared.command.Reader.TheVariants.{CloseEulerian, OfMap, Check, Unsample, Sample}
-use Rattle.pm_cli.specs.declared.command.MapTask.TheVariants.{Print, OpenEulerian}
-use Rattle.pm_cli.specs.declared.command.Image.TheVariants.{Canon, Medial, Unmedial, Dual}
+use Rattle.pm_cli.specs.declared.command.Reader.TheVariants.{CloseEulerian, OpenEulerian, OfMap, Check, Unsample, Sample}
+use Rattle.pm_cli.specs.declared.command.MapTask.TheVariants.{Canon, Medial, Unmedial, Dual}
 use Rattle.pm_cli.specs.declared.command.Maker.{Maker}
 use Rattle.pm_cli.specs.declared.command.Maker.TheVariants.{Draw, Trip}
 use Rattle.pm_cli.specs.declared.words.TheConstants.{MAX_RECORDS}
-use Rattle.pm_cli.specs.declared.words.Verb.{Verb}
-use Rattle.pm_cli.specs.declared.words.Verb.TheVariants as verb
-use Rattle.pm_cli.specs.Classes.{IsSize, class_of}
-use Rattle.pm_cli.specs.ProfileWord.{profile_text}
+use Rattle.pm_cli.specs.declared.command.Verb.{Verb}
+use Rattle.pm_cli.specs.declared.command.Verb.TheVariants as verb
+use Rattle.pm_cli.specs.Classes.{IsSize, class_of, class_word, size_word}
 
 abbrev pub verb_word : Verb → List ℕ
 verb_word verb.Close = codes "close"
 verb_word verb.Open = codes "open"
-verb_word (verb.Print Canon) = codes "canon"
-verb_word (verb.Print Medial) = codes "medial"
-verb_word (verb.Print Unmedial) = codes "unmedial"
-verb_word (verb.Print Dual) = codes "dual"
+verb_word (verb.OfMap Canon) = codes "canon"
+verb_word (verb.OfMap Medial) = codes "medial"
+verb_word (verb.OfMap Unmedial) = codes "unmedial"
+verb_word (verb.OfMap Dual) = codes "dual"
 verb_word verb.Check = codes "check"
 verb_word verb.Sample = codes "sample"
 verb_word verb.Unsample = codes "unsample"
 verb_word verb.Draw = codes "draw"
 verb_word verb.Trip = codes "trip"
-
-abbrev pub class_word : Class → List ℕ
-class_word class.General = codes "general"
-class_word class.Quartic = codes "quartic"
-class_word class.Eulerian = codes "eulerian"
-class_word class.Bipartite = codes "bipartite"
-
-abbrev pub size_word : Size → List ℕ
-size_word (sizes.General size) = decimal size
-size_word (sizes.Quartic size) = decimal size
-size_word (sizes.Eulerian profile) = profile_text profile
-size_word (sizes.Bipartite profile) = profile_text profile
 
 -- a class and a size of it, and then other words
 abbrev pub size_words : Size → List (List ℕ) → List (List ℕ)
@@ -54,8 +37,8 @@ number_words seed count = decimal seed ∷ decimal count ∷ []
 -- what the first word of a command tells to do, and the words behind it
 abbrev pub verb_of : Command → Verb
 verb_of (Reads CloseEulerian) = verb.Close
-verb_of (Reads (OfMap (Print image))) = verb.Print image
-verb_of (Reads (OfMap OpenEulerian)) = verb.Open
+verb_of (Reads (OfMap task)) = verb.OfMap task
+verb_of (Reads OpenEulerian) = verb.Open
 verb_of (Reads (Check class)) = verb.Check
 verb_of (Reads (Unsample class)) = verb.Unsample
 verb_of (Reads (Sample size)) = verb.Sample
@@ -64,8 +47,8 @@ verb_of (Makes (Trip seed) size) = verb.Trip
 
 abbrev pub behind : Command → List (List ℕ)
 behind (Reads CloseEulerian) = codes "eulerian" ∷ []
-behind (Reads (OfMap (Print image))) = []
-behind (Reads (OfMap OpenEulerian)) = codes "eulerian" ∷ []
+behind (Reads (OfMap task)) = []
+behind (Reads OpenEulerian) = codes "eulerian" ∷ []
 behind (Reads (Check class)) = class_word class ∷ []
 behind (Reads (Unsample class)) = class_word class ∷ []
 behind (Reads (Sample size)) = size_words size []
@@ -86,6 +69,7 @@ pub record AreDrawNumbers (seed count : ℕ) : Type 0 where
 abbrev pub IsReader : Reader → Type 0
 IsReader (Sample size) = IsSize size
 IsReader CloseEulerian = ⊤
+IsReader OpenEulerian = ⊤
 IsReader (OfMap task) = ⊤
 IsReader (Check class) = ⊤
 IsReader (Unsample class) = ⊤

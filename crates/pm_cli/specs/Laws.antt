@@ -5,16 +5,15 @@ use Rattle.pm_map.specs.Rotation.{RotationSystem}
 use Rattle.pm_mapfile.specs.MapFile.{IsResidueLine}
 use Rattle.pm_cli.specs.declared.class.Class.{Class}
 use Rattle.pm_cli.specs.declared.class.Size.{Size}
-use Rattle.pm_cli.specs.declared.command.MapTask.TheVariants.{Print, OpenEulerian}
-use Rattle.pm_cli.specs.declared.command.Image.TheVariants.{Canon, Medial, Unmedial, Dual}
+use Rattle.pm_cli.specs.declared.command.MapTask.TheVariants.{Canon, Medial, Unmedial, Dual}
 use Rattle.pm_cli.specs.declared.command.Reader.{Reader}
-use Rattle.pm_cli.specs.declared.command.Reader.TheVariants.{CloseEulerian, OfMap, Check, Unsample, Sample}
+use Rattle.pm_cli.specs.declared.command.Reader.TheVariants.{CloseEulerian, OpenEulerian, OfMap, Check, Unsample, Sample}
 use Rattle.pm_cli.specs.declared.command.Command.TheVariants.{Reads}
 use Rattle.pm_cli.specs.declared.refusal.Refusal.{Refusal}
 use Rattle.pm_cli.specs.Answer.{Answers}
 use Rattle.pm_cli.specs.Classes.{AtSize, sized, IsSize, class_of}
 use Rattle.pm_cli.specs.Commands.{spelling}
-use Rattle.pm_cli.specs.MapAnswers.{HasMap, counts_line}
+use Rattle.pm_cli.specs.MapAnswers.{HasMap, PrintsImage, counts_line}
 use Rattle.pm_cli.specs.Sampling.{HasChoices}
 
 -- words and bytes have one answer and no other
@@ -38,41 +37,41 @@ AnswersByWords reader bytes answer = Answers (spelling (Reads reader)) bytes ans
 
 -- what `close eulerian` answers to a tree file, `open eulerian` answers by that file
 abbrev pub ClosedTreesOpen : (Reader → List ℕ → Result (List ℕ) Refusal → Type 0) → Type 0
-ClosedTreesOpen answers = (bytes text : List ℕ) → answers CloseEulerian bytes (Ok text) → answers (OfMap OpenEulerian) text (Ok bytes)
+ClosedTreesOpen answers = (bytes text : List ℕ) → answers CloseEulerian bytes (Ok text) → answers OpenEulerian text (Ok bytes)
 
 -- and what `open eulerian` answers to a map file, `close eulerian` answers as `canon` answers that file
 abbrev pub OpenedMapsClose : (Reader → List ℕ → Result (List ℕ) Refusal → Type 0) → Type 0
 OpenedMapsClose answers =
-    (bytes text canonical : List ℕ) → answers (OfMap OpenEulerian) bytes (Ok text) → answers (OfMap (Print Canon)) bytes (Ok canonical)
+    (bytes text canonical : List ℕ) → answers OpenEulerian bytes (Ok text) → answers (OfMap Canon) bytes (Ok canonical)
     → answers CloseEulerian text (Ok canonical)
 
 -- the command answers by the text of a map
 abbrev pub PrintsMap : Reader → Type 0
 PrintsMap CloseEulerian = ⊤
-PrintsMap (OfMap (Print image)) = ⊤
-PrintsMap (OfMap OpenEulerian) = ⊥
+PrintsMap (OfMap task) = PrintsImage task
+PrintsMap OpenEulerian = ⊥
 PrintsMap (Check class) = ⊥
 PrintsMap (Unsample class) = ⊥
 PrintsMap (Sample size) = ⊥
 
 -- what such a command answers, `canon` answers by that very text
 abbrev pub PrintedMapsStay : (Reader → List ℕ → Result (List ℕ) Refusal → Type 0) → Type 0
-PrintedMapsStay answers = (reader : Reader) (bytes text : List ℕ) → PrintsMap reader → answers reader bytes (Ok text) → answers (OfMap (Print Canon)) text (Ok text)
+PrintedMapsStay answers = (reader : Reader) (bytes text : List ℕ) → PrintsMap reader → answers reader bytes (Ok text) → answers (OfMap Canon) text (Ok text)
 
 -- what the one command answers to a map file, the other answers as `canon` answers that file
 abbrev pub ImagesReturn : (Reader → List ℕ → Result (List ℕ) Refusal → Type 0) → Reader → Reader → Type 0
 ImagesReturn answers there back =
-    (bytes text canonical : List ℕ) → answers there bytes (Ok text) → answers (OfMap (Print Canon)) bytes (Ok canonical) → answers back text (Ok canonical)
+    (bytes text canonical : List ℕ) → answers there bytes (Ok text) → answers (OfMap Canon) bytes (Ok canonical) → answers back text (Ok canonical)
 
 -- so it is of `dual` and `dual`, of `medial` and `unmedial`, and of `unmedial` and `medial`
 abbrev pub DualsReturn : (Reader → List ℕ → Result (List ℕ) Refusal → Type 0) → Type 0
-DualsReturn answers = ImagesReturn answers (OfMap (Print Dual)) (OfMap (Print Dual))
+DualsReturn answers = ImagesReturn answers (OfMap Dual) (OfMap Dual)
 
 abbrev pub MedialsReturn : (Reader → List ℕ → Result (List ℕ) Refusal → Type 0) → Type 0
-MedialsReturn answers = ImagesReturn answers (OfMap (Print Medial)) (OfMap (Print Unmedial))
+MedialsReturn answers = ImagesReturn answers (OfMap Medial) (OfMap Unmedial)
 
 abbrev pub UnmedialsReturn : (Reader → List ℕ → Result (List ℕ) Refusal → Type 0) → Type 0
-UnmedialsReturn answers = ImagesReturn answers (OfMap (Print Unmedial)) (OfMap (Print Medial))
+UnmedialsReturn answers = ImagesReturn answers (OfMap Unmedial) (OfMap Medial)
 
 -- what `sample` answers to a choices file, `unsample` for the class answers by that file
 abbrev pub SampledListsReturn : (Reader → List ℕ → Result (List ℕ) Refusal → Type 0) → Type 0
@@ -108,5 +107,5 @@ pub record IsSampledAgain (answers : Reader → List ℕ → Result (List ℕ) R
 -- what is unsampled of a map file, is sampled as the text that `canon` answers to that file, and its residue line
 abbrev pub UnsampledPairsReturn : (Reader → List ℕ → Result (List ℕ) Refusal → Type 0) → Type 0
 UnsampledPairsReturn answers =
-    (class : Class) (bytes text canonical : List ℕ) → answers (Unsample class) bytes (Ok text) → answers (OfMap (Print Canon)) bytes (Ok canonical)
+    (class : Class) (bytes text canonical : List ℕ) → answers (Unsample class) bytes (Ok text) → answers (OfMap Canon) bytes (Ok canonical)
     → IsSampledAgain answers class bytes canonical text

@@ -1,7 +1,8 @@
 -- What the commands from a map file to a text answer.
-use Rattle.std.specs.Prelude.{◌≡◌, ℕ, ◌/◌, ◌<◌, List, [], ◌∷◌, ◌++◌, length, Option, None, Some, Result, Ok, Err, codes, decimal}
+use Rattle.std.specs.Prelude.{◌≡◌, ℕ, ◌/◌, ◌<◌, List, [], ◌∷◌, ◌++◌, length, Option, None, Some, Result, Ok, Err, codes, decimal, ⊤}
 use Rattle.pm_limits.specs.declared.TheConstants.{MAX_EDGES, MAX_DEGREE}
 use Rattle.pm_text.specs.Broken.{newline, IsBrokenLine}
+use Rattle.pm_map.specs.declared.admitted.Degrees.{Degrees}
 use Rattle.pm_map.specs.declared.admitted.Degrees.TheVariants.{Exactly, EvenUpTo}
 use Rattle.pm_map.specs.declared.refusal.MapRefusal.{MapRefusal}
 use Rattle.pm_map.specs.declared.refusal.MapRefusal.TheVariants.{Memory as MemoryOfMap, TooMany, NotPermutation, NotConnected, Genus}
@@ -17,9 +18,7 @@ use Rattle.pm_mapfile.specs.MapFile.{IsMapFile}
 pub use Rattle.pm_mapfile.specs.MapText.{HasCanonicalText}
 use Rattle.pm_open.specs.Opening.{IsOpening}
 use Rattle.pm_cli.specs.declared.command.MapTask.{MapTask}
-use Rattle.pm_cli.specs.declared.command.MapTask.TheVariants.{Print, OpenEulerian}
-use Rattle.pm_cli.specs.declared.command.Image.{Image}
-use Rattle.pm_cli.specs.declared.command.Image.TheVariants.{Canon, Medial, Unmedial, Dual}
+use Rattle.pm_cli.specs.declared.command.MapTask.TheVariants.{Canon, Medial, Unmedial, Dual}
 use Rattle.pm_cli.specs.declared.refusal.Limit.TheVariants.{Edges}
 use Rattle.pm_cli.specs.declared.refusal.MapRule.TheVariants.{Permutation, Connected, Euler, Empty, Vertex, Face, Loop, Double}
 use Rattle.pm_cli.specs.declared.refusal.Refusal.{Refusal}
@@ -64,22 +63,17 @@ pub data RefusesFile (form : List ℕ → Type 0) (makes_no_map : MapRefusal →
 abbrev pub RefusesMapFile : ℕ → List ℕ → Refusal → Type 0
 RefusesMapFile limit bytes refusal = RefusesFile IsMapFile (MakesNoMap bytes limit) bytes refusal
 
--- what is answered to maps: a text, or a rule of maps; and to how many edges at most
+-- what is answered to maps with at most so many edges: a text of a kind, or a rule of maps that is broken
 pub record MapRelation : Type 1 where
   pub limit : ℕ
-  pub answers : RotationSystem → Result (List ℕ) ClassRefusal → Type 0
+  pub text_of : RotationSystem → List ℕ → Type 0
+  pub refuses : RotationSystem → ClassRefusal → Type 0
 
 -- what is answered to a map file: what is answered to its map, or the first rule that the file breaks
 pub data AnswersMap (relation : MapRelation) (bytes : List ℕ) : Result (List ℕ) Refusal → Type 0 where
-  told : (text : List ℕ) → HasMap bytes relation.limit (λ map. relation.answers map (Ok text)) → AnswersMap relation bytes (Ok text)
+  told : (text : List ℕ) → HasMap bytes relation.limit (λ map. relation.text_of map text) → AnswersMap relation bytes (Ok text)
   no_map : (refusal : Refusal) → RefusesMapFile relation.limit bytes refusal → AnswersMap relation bytes (Err refusal)
-  breaks : (refusal : Refusal) (why : ClassRefusal) → rule_of_class why ≡ Some refusal → HasMap bytes relation.limit (λ map. relation.answers map (Err why))
-      → AnswersMap relation bytes (Err refusal)
-
--- each map is told a text of this kind
-abbrev pub Tells : (RotationSystem → List ℕ → Type 0) → RotationSystem → Result (List ℕ) ClassRefusal → Type 0
-Tells text_of map (Ok text) = text_of map text
-Tells text_of map (Err why) = ⊥
+  breaks : (refusal : Refusal) (why : ClassRefusal) → rule_of_class why ≡ Some refusal → HasMap bytes relation.limit (λ map. relation.refuses map why) → AnswersMap relation bytes (Err refusal)
 
 -- the text of the canonical map of another map, which is an image of the map
 pub record HasTextOf (image : RotationSystem → RotationSystem → Type 0) (map : RotationSystem) (text : List ℕ) : Type 0 where
@@ -88,16 +82,32 @@ pub record HasTextOf (image : RotationSystem → RotationSystem → Type 0) (map
   pub is_image : image map other
   pub is_text : HasCanonicalText other text
 
--- a map with a dart is told its medial map
-pub data PrintsMedial (map : RotationSystem) : Result (List ℕ) ClassRefusal → Type 0 where
-  has_medial : (text : List ℕ) → 0 < length map.sigma → HasTextOf IsMedialMap map text → PrintsMedial map (Ok text)
-  no_medial : length map.sigma ≡ 0 → PrintsMedial map (Err class.Empty)
+-- a map that should have a dart has none
+pub data HasNoDart (map : RotationSystem) : ClassRefusal → Type 0 where
+  empty : length map.sigma ≡ 0 → HasNoDart map class.Empty
 
--- a map with a dart whose vertices have degree 4 is told its unmedial, another the first rule that it breaks
-pub data PrintsUnmedial (map : RotationSystem) : Result (List ℕ) ClassRefusal → Type 0 where
-  has_unmedial : (text : List ℕ) → 0 < length map.sigma → HasTextOf (λ m. IsUnmedialOf (structure_of m)) map text → PrintsUnmedial map (Ok text)
-  no_unmedial : length map.sigma ≡ 0 → PrintsUnmedial map (Err class.Empty)
-  not_quartic : (dart : ℕ) → IsLeastOther (structure_of map) (Exactly 4) dart → PrintsUnmedial map (Err (class.Vertex dart))
+-- a map that should have a dart, and vertices of such degrees, has none, or one of another degree
+pub data HasOtherDegrees (degrees : Degrees) (map : RotationSystem) : ClassRefusal → Type 0 where
+  no_dart : length map.sigma ≡ 0 → HasOtherDegrees degrees map class.Empty
+  other_degree : (dart : ℕ) → IsLeastOther (structure_of map) degrees dart → HasOtherDegrees degrees map (class.Vertex dart)
+
+-- what is printed for a map; a medial map has twice as many edges
+abbrev pub task_relation : MapTask → MapRelation
+task_relation Canon = record { limit = MAX_EDGES; text_of = HasTextOf (λ map other. other ≡ map); refuses = λ map why. ⊥ }
+task_relation Medial = record { limit = MAX_EDGES / 2; text_of = HasTextOf (λ map other. (0 < length map.sigma) × IsMedialMap map other); refuses = HasNoDart }
+task_relation Unmedial = record {
+  limit = MAX_EDGES;
+  text_of = HasTextOf (λ map other. (0 < length map.sigma) × IsUnmedialOf (structure_of map) other);
+  refuses = HasOtherDegrees (Exactly 4);
+}
+task_relation Dual = record { limit = MAX_EDGES; text_of = HasTextOf IsDualOf; refuses = λ map why. ⊥ }
+
+-- the tasks that print the text of a map, and nothing else
+abbrev pub PrintsImage : MapTask → Type 0
+PrintsImage Canon = ⊤
+PrintsImage Medial = ⊤
+PrintsImage Unmedial = ⊤
+PrintsImage Dual = ⊤
 
 -- `ok V E F`: how many vertices, edges and faces the map has
 abbrev pub counts_line : RotationSystem → List ℕ
@@ -108,10 +118,10 @@ counts_line map =
 abbrev pub IsCountsText : RotationSystem → List ℕ → Type 0
 IsCountsText map text = text ≡ counts_line map
 
--- a map of a class is told its counts, another the first rule that it breaks
-abbrev pub CountsIn : {Measure : Type 0} → (RotationSystem → Result Measure ClassRefusal → Type 0) → RotationSystem → Result (List ℕ) ClassRefusal → Type 0
-CountsIn {Measure} answers map (Ok text) = ((size : Measure) × answers map (Ok size)) × IsCountsText map text
-CountsIn answers map (Err why) = answers map (Err why)
+-- a map of a class with at most so many edges is told its counts, another the first rule that it breaks
+abbrev pub counting : {Measure : Type 0} → ℕ → (RotationSystem → Result Measure ClassRefusal → Type 0) → MapRelation
+counting {Measure} most answers =
+    record { limit = most; text_of = λ map text. ((size : Measure) × answers map (Ok size)) × IsCountsText map text; refuses = λ map why. answers map (Err why) }
 
 -- the text is the tree file of the opening of the map
 pub record HasOpenText (map : RotationSystem) (text : List ℕ) : Type 0 where
@@ -119,20 +129,6 @@ pub record HasOpenText (map : RotationSystem) (text : List ℕ) : Type 0 where
   pub opened : IsOpening map word
   pub is_text : IsTreeLine word text
 
--- a map with even degrees is told its opening, another the first rule that it breaks
-pub data Opens (map : RotationSystem) : Result (List ℕ) ClassRefusal → Type 0 where
-  opened : (text : List ℕ) → HasOpenText map text → Opens map (Ok text)
-  no_dart : length map.sigma ≡ 0 → Opens map (Err class.Empty)
-  other_degree : (dart : ℕ) → IsLeastOther (structure_of map) (EvenUpTo MAX_DEGREE) dart → Opens map (Err (class.Vertex dart))
-
--- which map is printed for a map; a medial map has twice as many edges
-abbrev pub image_relation : Image → MapRelation
-image_relation Canon = record { limit = MAX_EDGES; answers = Tells HasCanonicalText }
-image_relation Medial = record { limit = MAX_EDGES / 2; answers = PrintsMedial }
-image_relation Unmedial = record { limit = MAX_EDGES; answers = PrintsUnmedial }
-image_relation Dual = record { limit = MAX_EDGES; answers = Tells (HasTextOf IsDualOf) }
-
--- what is answered to any map
-abbrev pub task_relation : MapTask → MapRelation
-task_relation (Print image) = image_relation image
-task_relation OpenEulerian = record { limit = MAX_EDGES; answers = Opens }
+-- a map with even degrees is told its opening
+abbrev pub opening : MapRelation
+opening = record { limit = MAX_EDGES; text_of = HasOpenText; refuses = HasOtherDegrees (EvenUpTo MAX_DEGREE) }

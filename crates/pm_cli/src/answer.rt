@@ -1,13 +1,18 @@
-ghost use Rattle.std.specs.Prelude.{◌≤◌, length};
+//! What commands answer, by class.
+ghost use Rattle.std.specs.Prelude.{◌≤◌, length, Ok};
 ghost use Rattle.pm_io.specs.declared.TheConstants.{MAX_BYTES as limit};
-ghost use Rattle.pm_cli.specs.Answer.{AnswersReader};
+ghost use Rattle.pm_cli.specs.Answer.{AnswersReader, AnswersSize};
+ghost use Rattle.pm_cli.specs.Classes.{sized, IsSize};
 ghost use Rattle.pm_cli.specs.Commands.{IsReader};
+ghost use Rattle.pm_cli.specs.Ending.{IsFirstRecords};
 ghost use Rattle.pm_cli.specs.steps.Answering.{IsAnswerBy};
+ghost use Rattle.pm_cli.specs.steps.Streams.{IsWritingRecords};
 
 use crate::check::check_class;
 use crate::class::{Class, Size};
 use crate::close::close_eulerian;
-use crate::command::{MapTask, Reader};
+use crate::command::{Maker, Reader};
+use crate::draw::make_of;
 use crate::open::open_eulerian;
 use crate::printing::print;
 use crate::refusal::Stop;
@@ -16,6 +21,7 @@ use crate::unsample::unsample;
 use pm_class::MapClass;
 use pm_euler::{Eulerian, Quartic};
 use pm_general::{Bipartite, General};
+use pm_io::Sink;
 use std::alloc::Global;
 
 // What a command that reads answers to a file.
@@ -26,8 +32,8 @@ pub(crate) fn answer(alloc: Global, reader: &Reader, bytes: &[u8]) -> Result<Vec
 {
     match reader {
         Reader::CloseEulerian => close_eulerian(alloc, bytes),
-        Reader::OfMap(MapTask::Print(image)) => print(alloc, *image, bytes),
-        Reader::OfMap(MapTask::OpenEulerian) => open_eulerian(alloc, bytes),
+        Reader::OpenEulerian => open_eulerian(alloc, bytes),
+        Reader::OfMap(task) => print(alloc, *task, bytes),
         Reader::Check(Class::General) => check_class::<General>(alloc, bytes, General::MOST_EDGES),
         Reader::Check(Class::Quartic) => check_class::<Quartic>(alloc, bytes, Quartic::MOST_EDGES),
         Reader::Check(Class::Eulerian) => check_class::<Eulerian>(
@@ -56,5 +62,24 @@ pub(crate) fn answer(alloc: Global, reader: &Reader, bytes: &[u8]) -> Result<Vec
         Reader::Sample(Size::Quartic(size)) => sample::<Quartic>(alloc, size, bytes),
         Reader::Sample(Size::Eulerian(profile)) => sample::<Eulerian>(alloc, profile, bytes),
         Reader::Sample(Size::Bipartite(profile)) => sample::<Bipartite>(alloc, profile, bytes),
+    }
+}
+
+// Does a task with a size, and writes its answer.
+pub(crate) fn make<O: Sink>(
+    alloc: Global,
+    task: &Maker,
+    size: &Size,
+    out: &mut O,
+) -> Result<(), Stop>
+    requires { IsSize size.now }
+    ensures { IsWritingRecords (λ text. AnswersSize task.now (sized size.now) (Ok text)) (IsFirstRecords task.now (sized size.now))
+        (O.holds out.old) (O.holds out.new) (O.faults out.old) (O.faults out.new) result }
+{
+    match size {
+        Size::General(size) => make_of::<General, O>(alloc, task, size, out),
+        Size::Quartic(size) => make_of::<Quartic, O>(alloc, task, size, out),
+        Size::Eulerian(profile) => make_of::<Eulerian, O>(alloc, task, profile, out),
+        Size::Bipartite(profile) => make_of::<Bipartite, O>(alloc, task, profile, out),
     }
 }

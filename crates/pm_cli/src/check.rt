@@ -1,7 +1,7 @@
 ghost use Rattle.std.specs.Prelude.{◌≤◌, length, IfOk};
 ghost use Rattle.pm_io.specs.declared.TheConstants.{MAX_BYTES as limit};
 ghost use Rattle.pm_limits.specs.declared.TheConstants.{MAX_EDGES};
-ghost use Rattle.pm_cli.specs.MapAnswers.{AnswersMap, CountsIn, IsCountsText};
+ghost use Rattle.pm_cli.specs.MapAnswers.{AnswersMap, counting, IsCountsText};
 ghost use Rattle.pm_cli.specs.steps.Answering.{IsAnswerBy};
 
 use crate::map_file::map_of_file;
@@ -36,7 +36,7 @@ pub(crate) fn check_class<C: MapClass>(
 ) -> Result<Vec<u8>, Stop>
     requires bytes { length bytes.now ≤ limit }
     requires most { most_edges ≤ MAX_EDGES }
-    ensures { IsAnswerBy (AnswersMap (record { limit = most_edges; answers = CountsIn C.answers }) bytes.now) result }
+    ensures { IsAnswerBy (AnswersMap (counting most_edges C.answers) bytes.now) result }
 {
     let map = map_of_file(alloc, bytes, most_edges)?;
     match C::size_of(alloc, &map) {

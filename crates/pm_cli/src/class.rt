@@ -1,5 +1,18 @@
-//! The classes of maps that commands know, and their sizes.
+//! The classes of maps that commands know, their sizes, the words of both, and their laws.
+ghost use Rattle.std.specs.Prelude.{◌≡◌, ◌≢◌, ℕ, ◌<◌, ◌^◌, decimal, string_bytes, IfOk, MatchOption};
+ghost use Rattle.pm_cli.specs.declared.class.Class.{Class};
+ghost use Rattle.pm_cli.specs.declared.class.Size.{Size};
+ghost use Rattle.pm_cli.specs.Classes.{sampler_of, class_of, IsSize, class_word, size_word};
+ghost use Rattle.pm_cli.specs.steps.ClassLaws.{IsSampler};
+
+use crate::laws::law;
+use crate::profile_word::{read_profile, small_number};
+use crate::words::is_word;
+use pm_class::MapClass;
+use pm_euler::{Eulerian, Quartic};
+use pm_general::{Bipartite, General};
 use pm_trees::Profile;
+use std::alloc::{AllocError, Global};
 
 /// A class of maps that can be sampled.
 #[derive(Clone, Copy)]
@@ -25,4 +38,82 @@ pub enum Size {
     Eulerian(Profile),
     /// So many faces of each degree.
     Bipartite(Profile),
+}
+
+impl Class {
+    // The class that the word is, where it is one.
+    pub(crate) fn of_word(word: &String) -> Option<Class>
+        ensures { MatchOption result ((class : Class) → string_bytes word.now ≢ class_word class) (λ class. string_bytes word.now ≡ class_word class) }
+    {
+        if is_word(word, "general") {
+            return Some(Class::General);
+        }
+        if is_word(word, "quartic") {
+            return Some(Class::Quartic);
+        }
+        if is_word(word, "eulerian") {
+            return Some(Class::Eulerian);
+        }
+        if is_word(word, "bipartite") {
+            return Some(Class::Bipartite);
+        }
+        None
+    }
+}
+
+// The size of the class that the word spells as a number, where there is one.
+fn number_size<C: MapClass<Size = u32>>(word: &String) -> Option<u32>
+    requires few { (size : ℕ) → C.is_size size → size < 2 ^ 32 }
+    ensures { MatchOption result
+        ((size : ℕ) → C.is_size size → string_bytes word.now ≢ decimal size)
+        (λ size. C.is_size size × (string_bytes word.now ≡ decimal size)) }
+{
+    let size = small_number(word.as_str())?;
+    if C::admissible(&size) {
+        Some(size)
+    } else {
+        None
+    }
+}
+
+impl Size {
+    // The size of the class that the word spells, where there is one.
+    pub(crate) fn of_word(
+        alloc: Global,
+        class: Class,
+        word: &String,
+    ) -> Result<Option<Size>, AllocError>
+        ensures { IfOk result (λ found. MatchOption found
+            ((size : Size) → class_of size ≡ class → IsSize size → string_bytes word.now ≢ size_word size)
+            (λ size. (class_of size ≡ class) × IsSize size × (string_bytes word.now ≡ size_word size))) }
+    {
+        match class {
+            Class::General => match number_size::<General>(word) {
+                Some(size) => Ok(Some(Size::General(size))),
+                None => Ok(None),
+            },
+            Class::Quartic => match number_size::<Quartic>(word) {
+                Some(size) => Ok(Some(Size::Quartic(size))),
+                None => Ok(None),
+            },
+            Class::Eulerian => match read_profile(alloc, word.as_str())? {
+                Some(profile) => Ok(Some(Size::Eulerian(profile))),
+                None => Ok(None),
+            },
+            Class::Bipartite => match read_profile(alloc, word.as_str())? {
+                Some(profile) => Ok(Some(Size::Bipartite(profile))),
+                None => Ok(None),
+            },
+        }
+    }
+}
+
+// The laws of each class, to call upon; nothing is computed.
+pub(crate) fn each_class_has_laws()
+    ensures { (class : Class) → IsSampler (sampler_of class) }
+{
+    law::<General>();
+    law::<Quartic>();
+    law::<Eulerian>();
+    law::<Bipartite>();
 }

@@ -1,5 +1,10 @@
-//! The commands.
+//! The commands, and their first words.
+ghost use Rattle.std.specs.Prelude.{◌≡◌, ◌≢◌, string_bytes, MatchOption};
+ghost use Rattle.pm_cli.specs.declared.command.Verb.{Verb};
+ghost use Rattle.pm_cli.specs.Commands.{verb_word};
+
 use crate::class::{Class, Size};
+use crate::words::is_word;
 
 /// A command, by where its answer comes from.
 #[derive(Drop)]
@@ -15,7 +20,9 @@ pub enum Command {
 pub enum Reader {
     /// `close eulerian`: closes a blossoming tree.
     CloseEulerian,
-    /// Answers to any map.
+    /// `open eulerian`: the tree that a map opens to, where its vertices have even degrees.
+    OpenEulerian,
+    /// Prints a text for any map.
     OfMap(MapTask),
     /// `check CLASS`: counts the vertices, edges and faces of a map of the class.
     Check(Class),
@@ -25,25 +32,16 @@ pub enum Reader {
     Sample(Size),
 }
 
-/// What is answered to a map, whatever its class.
+/// What is printed for a map, whatever its class. The word of each is a command.
 #[derive(Clone, Copy)]
 pub enum MapTask {
-    /// Prints the canonical map of another map.
-    Print(Image),
-    /// `open eulerian`: the tree that the map opens to, where its vertices have even degrees.
-    OpenEulerian,
-}
-
-/// Which map is printed for a map. The word of each is a command.
-#[derive(Clone, Copy)]
-pub enum Image {
-    /// `canon`: the map itself.
+    /// `canon`: the canonical map of the map.
     Canon,
-    /// `medial`: its medial map.
+    /// `medial`: that of its medial map.
     Medial,
-    /// `unmedial`: the map whose medial map it is.
+    /// `unmedial`: that of the map whose medial map it is.
     Unmedial,
-    /// `dual`: its dual.
+    /// `dual`: that of its dual.
     Dual,
 }
 
@@ -55,4 +53,59 @@ pub enum Maker {
     /// `trip CLASS SIZE SEED`: draws a list of choices, samples it, unsamples what it gave, and counts the vertices, edges
     /// and faces of its map.
     Trip { seed: u64 },
+}
+
+/// What the first word of a command tells to do.
+#[derive(Clone, Copy)]
+pub enum Verb {
+    Close,
+    Open,
+    OfMap(MapTask),
+    Check,
+    Sample,
+    Unsample,
+    Draw,
+    Trip,
+}
+
+impl Verb {
+    // The verb that the word is, where it is one.
+    pub(crate) fn of_word(word: &String) -> Option<Verb>
+        ensures { MatchOption result ((verb : Verb) → string_bytes word.now ≢ verb_word verb) (λ verb. string_bytes word.now ≡ verb_word verb) }
+    {
+        if is_word(word, "close") {
+            return Some(Verb::Close);
+        }
+        if is_word(word, "open") {
+            return Some(Verb::Open);
+        }
+        if is_word(word, "canon") {
+            return Some(Verb::OfMap(MapTask::Canon));
+        }
+        if is_word(word, "medial") {
+            return Some(Verb::OfMap(MapTask::Medial));
+        }
+        if is_word(word, "unmedial") {
+            return Some(Verb::OfMap(MapTask::Unmedial));
+        }
+        if is_word(word, "dual") {
+            return Some(Verb::OfMap(MapTask::Dual));
+        }
+        if is_word(word, "check") {
+            return Some(Verb::Check);
+        }
+        if is_word(word, "sample") {
+            return Some(Verb::Sample);
+        }
+        if is_word(word, "unsample") {
+            return Some(Verb::Unsample);
+        }
+        if is_word(word, "draw") {
+            return Some(Verb::Draw);
+        }
+        if is_word(word, "trip") {
+            return Some(Verb::Trip);
+        }
+        None
+    }
 }

@@ -3,11 +3,10 @@ ghost use Rattle.pm_lists.specs.Valid.{AreBounds};
 ghost use Rattle.pm_draw.specs.Drawn.{words_of, drawn};
 ghost use Rattle.pm_cli.specs.Drawing.{IsRecord, IsDrawing, HasFirstRecords, RecordsGoOn};
 ghost use Rattle.pm_cli.specs.Answer.{AnswersSize};
-ghost use Rattle.pm_cli.specs.Classes.{AtSize, sized, IsSize};
+ghost use Rattle.pm_cli.specs.Classes.{AtSize};
 ghost use Rattle.pm_cli.specs.Ending.{IsFirstRecords};
 ghost use Rattle.pm_cli.specs.steps.Streams.{IsWritingRecords};
 
-use crate::class::Size;
 use crate::command::Maker;
 use crate::refusal::Stop;
 use crate::sample::sample_text;
@@ -15,8 +14,6 @@ use crate::trip::trip;
 use crate::writing::write_text;
 use pm_class::{MapClass, each_list_is_sampled};
 use pm_draw::{draw_list, rng_of};
-use pm_euler::{Eulerian, Quartic};
-use pm_general::{Bipartite, General};
 use pm_io::{Failed, Sink};
 use pm_lists::{Bounds, put_list};
 use rand_pcg::Pcg64;
@@ -91,7 +88,7 @@ fn draw<C: MapClass, O: Sink>(
 }
 
 // Does a task with a size of a class, and writes its answer.
-fn make_of<C: MapClass, O: Sink>(
+pub(crate) fn make_of<C: MapClass, O: Sink>(
     alloc: Global,
     task: &Maker,
     size: &C::Size,
@@ -116,24 +113,5 @@ fn make_of<C: MapClass, O: Sink>(
             };
             write_text(out, &text)
         }
-    }
-}
-
-// The same of any class.
-pub(crate) fn make<O: Sink>(
-    alloc: Global,
-    task: &Maker,
-    size: &Size,
-    out: &mut O,
-) -> Result<(), Stop>
-    requires { IsSize size.now }
-    ensures { IsWritingRecords (λ text. AnswersSize task.now (sized size.now) (Ok text)) (IsFirstRecords task.now (sized size.now))
-        (O.holds out.old) (O.holds out.new) (O.faults out.old) (O.faults out.new) result }
-{
-    match size {
-        Size::General(size) => make_of::<General, O>(alloc, task, size, out),
-        Size::Quartic(size) => make_of::<Quartic, O>(alloc, task, size, out),
-        Size::Eulerian(profile) => make_of::<Eulerian, O>(alloc, task, profile, out),
-        Size::Bipartite(profile) => make_of::<Bipartite, O>(alloc, task, profile, out),
     }
 }

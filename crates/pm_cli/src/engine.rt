@@ -8,10 +8,9 @@ ghost use Rattle.pm_cli.specs.Headline.{IsHeadline};
 ghost use Rattle.pm_cli.specs.Lines.{status_of, status_of_stop};
 ghost use Rattle.pm_cli.specs.steps.Streams.{IsReading, IsToldFor};
 
-use crate::answer::answer;
-use crate::class_laws::each_class_has_laws;
+use crate::answer::{answer, make};
+use crate::class::each_class_has_laws;
 use crate::command::Command;
-use crate::draw::make;
 use crate::refusal::{Limit, Refusal, Stop};
 use crate::writing::write_text;
 use pm_io::{Failed, MAX_BYTES, ReadRefusal, Sink, Source, read_all};

@@ -3,7 +3,7 @@ ghost use Rattle.pm_cli.specs.steps.ClassLaws.{IsSampler};
 ghost use Rattle.pm_cli.specs.Answer.{AnswersReader};
 ghost use Rattle.pm_cli.specs.Laws.{HasOneAnswer, HasSomeAnswer, AnswersByWords, ClosedTreesOpen, OpenedMapsClose, PrintedMapsStay, DualsReturn, MedialsReturn, UnmedialsReturn, SampledListsReturn, SampledMapsAreCounted, UnsampledPairsReturn};
 
-use crate::class_laws::each_class_has_laws;
+use crate::class::each_class_has_laws;
 use pm_class::MapClass;
 
 // The laws of a class, as one bundle.

@@ -5,7 +5,6 @@ mod answer;
 mod check;
 mod choices_file;
 mod class;
-mod class_laws;
 mod close;
 mod command;
 mod draw;
@@ -26,14 +25,14 @@ mod words;
 mod writing;
 
 pub use class::{Class, Size};
-pub use command::{Command, Image, Maker, MapTask, Reader};
+pub use command::{Command, Maker, MapTask, Reader, Verb};
 pub use engine::run;
 pub use laws::{
     images_return, opening_undoes_closing, printed_maps_stay, sampled_maps_are_counted,
     sampling_undoes_unsampling, unsampling_undoes_sampling, words_and_bytes_have_one_answer,
 };
 pub use refusal::{Limit, MapRule, Refusal, Stop, TreeRule};
-pub use words::{MAX_RECORDS, Verb};
+pub use words::MAX_RECORDS;
 
 #[cfg(test)]
 mod limit_tests;

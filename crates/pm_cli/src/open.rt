@@ -1,7 +1,6 @@
 ghost use Rattle.std.specs.Prelude.{◌≤◌, length};
 ghost use Rattle.pm_io.specs.declared.TheConstants.{MAX_BYTES as limit};
-ghost use Rattle.pm_cli.specs.declared.command.MapTask.TheVariants.{OpenEulerian};
-ghost use Rattle.pm_cli.specs.MapAnswers.{AnswersMap, task_relation};
+ghost use Rattle.pm_cli.specs.MapAnswers.{AnswersMap, opening};
 ghost use Rattle.pm_cli.specs.steps.Answering.{IsAnswerBy};
 
 use crate::map_file::map_of_file;
@@ -14,7 +13,7 @@ use std::alloc::Global;
 // `open eulerian`: the tree file of the opening of the map in the file.
 pub(crate) fn open_eulerian(alloc: Global, bytes: &[u8]) -> Result<Vec<u8>, Stop>
     requires { length bytes.now ≤ limit }
-    ensures { IsAnswerBy (AnswersMap (task_relation OpenEulerian) bytes.now) result }
+    ensures { IsAnswerBy (AnswersMap opening bytes.now) result }
 {
     let map = map_of_file(alloc, bytes, MAX_EDGES)?;
     if map.sigma().is_empty() {

@@ -1,50 +1,72 @@
-//! The commands that print the canonical map of another map.
-ghost use Rattle.std.specs.Prelude.{◌≤◌, length};
+//! The commands that print a text for a map.
+ghost use Rattle.std.specs.Prelude.{◌≡◌, ◌*◌, ◌≤◌, length};
 ghost use Rattle.pm_io.specs.declared.TheConstants.{MAX_BYTES as limit};
-ghost use Rattle.pm_cli.specs.declared.command.Image.TheVariants.{Canon, Medial, Unmedial, Dual};
-ghost use Rattle.pm_cli.specs.MapAnswers.{AnswersMap, image_relation};
-ghost use Rattle.pm_cli.specs.steps.Answering.{IsAnswerBy};
+ghost use Rattle.pm_limits.specs.declared.TheConstants.{MAX_EDGES};
+ghost use Rattle.pm_map.specs.Rotation.{IsRootedMap};
+ghost use Rattle.pm_cli.specs.declared.command.MapTask.TheVariants.{Canon, Medial, Unmedial, Dual};
+ghost use Rattle.pm_cli.specs.MapAnswers.{MapRelation, AnswersMap, task_relation};
+ghost use Rattle.pm_cli.specs.steps.Answering.{IsAnswerBy, AnswersTo};
 
-use crate::command::Image;
+use crate::command::MapTask;
 use crate::map_file::map_of_file;
 use crate::refusal::{MapRule, Refusal, Stop};
 use pm_limits::MAX_EDGES;
+use pm_map::RootedMap;
 use pm_mapfile::canonical_bytes;
 use pm_medial::{MedialRefusal, UnmedialRefusal, dual, medial, unmedial};
 use std::alloc::Global;
 
-// The text of the canonical map of an image of the map in the file.
-pub(crate) fn print(alloc: Global, image: Image, bytes: &[u8]) -> Result<Vec<u8>, Stop>
+// What the task prints for the map in the file.
+pub(crate) fn print(alloc: Global, task: MapTask, bytes: &[u8]) -> Result<Vec<u8>, Stop>
     requires { length bytes.now ≤ limit }
-    ensures { IsAnswerBy (AnswersMap (image_relation image) bytes.now) result }
+    ensures { IsAnswerBy (AnswersMap (task_relation task) bytes.now) result }
 {
-    match image {
-        Image::Canon => canonize(alloc, bytes),
-        Image::Medial => print_medial(alloc, bytes),
-        Image::Unmedial => print_unmedial(alloc, bytes),
-        Image::Dual => print_dual(alloc, bytes),
+    let map = map_of_file(alloc, bytes, most_edges(task))?;
+    text_of(alloc, task, &map)
+}
+
+// The most edges of a map that the task takes.
+fn most_edges(task: MapTask) -> u32
+    ensures is { let relation : MapRelation = task_relation task in result ≡ relation.limit }
+    ensures few { result ≤ MAX_EDGES }
+{
+    match task {
+        MapTask::Canon | MapTask::Unmedial | MapTask::Dual => MAX_EDGES,
+        MapTask::Medial => MAX_EDGES / 2,
+    }
+}
+
+// What the task prints for the map.
+fn text_of(alloc: Global, task: MapTask, map: &RootedMap) -> Result<Vec<u8>, Stop>
+    requires rooted { IsRootedMap map.now }
+    requires few { let relation : MapRelation = task_relation task in length map.now.sigma ≤ 2 * relation.limit }
+    ensures { IsAnswerBy (AnswersTo (task_relation task) map.now) result }
+{
+    match task {
+        MapTask::Canon => print_map(alloc, map),
+        MapTask::Medial => print_medial(alloc, map),
+        MapTask::Unmedial => print_unmedial(alloc, map),
+        MapTask::Dual => print_dual(alloc, map),
     }
 }
 
 // `canon`
-fn canonize(alloc: Global, bytes: &[u8]) -> Result<Vec<u8>, Stop>
-    requires { length bytes.now ≤ limit }
-    ensures { IsAnswerBy (AnswersMap (image_relation Canon) bytes.now) result }
+fn print_map(alloc: Global, map: &RootedMap) -> Result<Vec<u8>, Stop>
+    requires { IsRootedMap map.now }
+    ensures { IsAnswerBy (AnswersTo (task_relation Canon) map.now) result }
 {
-    let map = map_of_file(alloc, bytes, MAX_EDGES)?;
-    Ok(canonical_bytes(alloc, &map)?)
+    Ok(canonical_bytes(alloc, map)?)
 }
 
 // `medial`
-fn print_medial(alloc: Global, bytes: &[u8]) -> Result<Vec<u8>, Stop>
-    requires { length bytes.now ≤ limit }
-    ensures { IsAnswerBy (AnswersMap (image_relation Medial) bytes.now) result }
+fn print_medial(alloc: Global, map: &RootedMap) -> Result<Vec<u8>, Stop>
+    requires { length map.now.sigma ≤ MAX_EDGES }
+    ensures { IsAnswerBy (AnswersTo (task_relation Medial) map.now) result }
 {
-    let map = map_of_file(alloc, bytes, MAX_EDGES / 2)?;
     if map.sigma().is_empty() {
         return Err(Stop::Refused(Refusal::Map(MapRule::Empty)));
     }
-    let image = match medial(alloc, &map) {
+    let image = match medial(alloc, map) {
         Ok(image) => image,
         Err(MedialRefusal::Memory) => return Err(Stop::Memory),
         Err(MedialRefusal::TooMany { .. }) => unreachable!(),
@@ -53,15 +75,13 @@ fn print_medial(alloc: Global, bytes: &[u8]) -> Result<Vec<u8>, Stop>
 }
 
 // `unmedial`
-fn print_unmedial(alloc: Global, bytes: &[u8]) -> Result<Vec<u8>, Stop>
-    requires { length bytes.now ≤ limit }
-    ensures { IsAnswerBy (AnswersMap (image_relation Unmedial) bytes.now) result }
+fn print_unmedial(alloc: Global, map: &RootedMap) -> Result<Vec<u8>, Stop>
+    ensures { IsAnswerBy (AnswersTo (task_relation Unmedial) map.now) result }
 {
-    let map = map_of_file(alloc, bytes, MAX_EDGES)?;
     if map.sigma().is_empty() {
         return Err(Stop::Refused(Refusal::Map(MapRule::Empty)));
     }
-    let image = match unmedial(alloc, &map) {
+    let image = match unmedial(alloc, map) {
         Ok(image) => image,
         Err(UnmedialRefusal::Memory) => return Err(Stop::Memory),
         Err(UnmedialRefusal::NotQuartic { dart }) => {
@@ -72,11 +92,10 @@ fn print_unmedial(alloc: Global, bytes: &[u8]) -> Result<Vec<u8>, Stop>
 }
 
 // `dual`
-fn print_dual(alloc: Global, bytes: &[u8]) -> Result<Vec<u8>, Stop>
-    requires { length bytes.now ≤ limit }
-    ensures { IsAnswerBy (AnswersMap (image_relation Dual) bytes.now) result }
+fn print_dual(alloc: Global, map: &RootedMap) -> Result<Vec<u8>, Stop>
+    requires { IsRootedMap map.now }
+    ensures { IsAnswerBy (AnswersTo (task_relation Dual) map.now) result }
 {
-    let map = map_of_file(alloc, bytes, MAX_EDGES)?;
-    let image = dual(alloc, &map)?;
+    let image = dual(alloc, map)?;
     Ok(canonical_bytes(alloc, &image)?)
 }

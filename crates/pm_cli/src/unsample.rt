@@ -2,7 +2,7 @@ ghost use Rattle.std.specs.Prelude.{◌≤◌, length};
 ghost use Rattle.pm_io.specs.declared.TheConstants.{MAX_BYTES as limit};
 ghost use Rattle.pm_limits.specs.declared.TheConstants.{MAX_EDGES};
 ghost use Rattle.pm_class.specs.Unsampling.{IsUnsampling};
-ghost use Rattle.pm_cli.specs.MapAnswers.{CountsIn};
+ghost use Rattle.pm_cli.specs.MapAnswers.{counting};
 ghost use Rattle.pm_cli.specs.Unsampling.{Unsamples};
 ghost use Rattle.pm_cli.specs.steps.Answering.{IsAnswerBy};
 
@@ -22,7 +22,7 @@ pub(crate) fn unsample<C: MapClass>(
     requires most { most_edges ≤ MAX_EDGES }
     ensures { IsAnswerBy (Unsamples (record {
       most_edges = most_edges;
-      counts = CountsIn C.answers;
+      counts = counting most_edges C.answers;
       unsamples = IsUnsampling C.choice_limits C.residue_limits C.samples C.answers;
     }) bytes.now) result }
 {

@@ -1,25 +1,17 @@
 //! Which words are a command.
 ghost use Rattle.std.specs.Prelude.{◌≡◌, ◌≢◌, ◌<◌, ◌≤◌, ◌^◌, ◌↔◌, ℕ, [], ◌∷◌, codes, map, decimal, string_bytes, IsTrue, IfOk, MatchOption, MatchResult};
-ghost use Rattle.pm_euler.specs.Quartic.{IsQuarticSize};
-ghost use Rattle.pm_general.specs.General.{IsGeneralSize};
 ghost use Rattle.pm_cli.specs.declared.words.TheConstants.{MAX_RECORDS};
-ghost use Rattle.pm_cli.specs.declared.class.Class.{Class};
-ghost use Rattle.pm_cli.specs.declared.class.Size.{Size};
 ghost use Rattle.pm_cli.specs.declared.command.Command.{Command};
 ghost use Rattle.pm_cli.specs.declared.command.Command.TheVariants.{Reads};
-ghost use Rattle.pm_cli.specs.declared.words.Verb.{Verb};
-ghost use Rattle.pm_cli.specs.declared.words.Verb.TheVariants.{Close, Sample, Draw, Trip};
+ghost use Rattle.pm_cli.specs.declared.command.Verb.{Verb};
+ghost use Rattle.pm_cli.specs.declared.command.Verb.TheVariants.{Close, Sample, Draw, Trip};
 ghost use Rattle.pm_cli.specs.declared.command.Reader.{Reader};
-ghost use Rattle.pm_cli.specs.Classes.{class_of, IsSize};
-ghost use Rattle.pm_cli.specs.Commands.{verb_word, class_word, size_word, size_words, IsCommand, Spells, IsNoCommand, AreDrawNumbers, number_words};
+ghost use Rattle.pm_cli.specs.Classes.{IsSize, class_word};
+ghost use Rattle.pm_cli.specs.Commands.{size_words, IsCommand, Spells, IsNoCommand, AreDrawNumbers, number_words};
 ghost use Rattle.pm_cli.specs.steps.Words.{StopsAt, IsOneOf, IsClassWord, AreSizeWords, AreNumberWords, AreSeedWords, AreDrawWords, AreTripWords, AreBehind, IsBehind};
 
 use crate::class::{Class, Size};
-use crate::command::{Command, Image, Maker, MapTask, Reader};
-use crate::profile_word::{read_profile, small_number};
-use pm_class::MapClass;
-use pm_euler::Quartic;
-use pm_general::General;
+use crate::command::{Command, Maker, Reader, Verb};
 use pm_text::number;
 use std::alloc::{AllocError, Global};
 
@@ -29,143 +21,11 @@ pub const MAX_RECORDS: u64 = 1000;
 // The number is part of the program's manual: another one is refused here.
 const _: () = prove!(MAX_RECORDS == 1_000);
 
-/// What the first word of a command tells to do.
-#[derive(Clone, Copy)]
-pub enum Verb {
-    Close,
-    Open,
-    Print(Image),
-    Check,
-    Sample,
-    Unsample,
-    Draw,
-    Trip,
-}
-
 // Whether the word is this text.
-fn is_word(word: &String, text: &str) -> bool
+pub(crate) fn is_word(word: &String, text: &str) -> bool
     ensures { IsTrue result ↔ (string_bytes word.now ≡ text.now) }
 {
     word.as_str() == text
-}
-
-impl Verb {
-    // The verb that the word is, where it is one.
-    fn of_word(word: &String) -> Option<Verb>
-        ensures { MatchOption result ((verb : Verb) → string_bytes word.now ≢ verb_word verb) (λ verb. string_bytes word.now ≡ verb_word verb) }
-    {
-        if is_word(word, "close") {
-            return Some(Verb::Close);
-        }
-        if is_word(word, "open") {
-            return Some(Verb::Open);
-        }
-        if is_word(word, "canon") {
-            return Some(Verb::Print(Image::Canon));
-        }
-        if is_word(word, "medial") {
-            return Some(Verb::Print(Image::Medial));
-        }
-        if is_word(word, "unmedial") {
-            return Some(Verb::Print(Image::Unmedial));
-        }
-        if is_word(word, "dual") {
-            return Some(Verb::Print(Image::Dual));
-        }
-        if is_word(word, "check") {
-            return Some(Verb::Check);
-        }
-        if is_word(word, "sample") {
-            return Some(Verb::Sample);
-        }
-        if is_word(word, "unsample") {
-            return Some(Verb::Unsample);
-        }
-        if is_word(word, "draw") {
-            return Some(Verb::Draw);
-        }
-        if is_word(word, "trip") {
-            return Some(Verb::Trip);
-        }
-        None
-    }
-}
-
-impl Class {
-    // The class that the word is, where it is one.
-    fn of_word(word: &String) -> Option<Class>
-        ensures { MatchOption result ((class : Class) → string_bytes word.now ≢ class_word class) (λ class. string_bytes word.now ≡ class_word class) }
-    {
-        if is_word(word, "general") {
-            return Some(Class::General);
-        }
-        if is_word(word, "quartic") {
-            return Some(Class::Quartic);
-        }
-        if is_word(word, "eulerian") {
-            return Some(Class::Eulerian);
-        }
-        if is_word(word, "bipartite") {
-            return Some(Class::Bipartite);
-        }
-        None
-    }
-}
-
-// The size of general maps that the word spells, where there is one.
-fn general_size(word: &String) -> Option<u32>
-    ensures { MatchOption result
-        ((size : ℕ) → IsGeneralSize size → string_bytes word.now ≢ decimal size)
-        (λ size. IsGeneralSize size × (string_bytes word.now ≡ decimal size)) }
-{
-    let size = small_number(word.as_str())?;
-    if General::admissible(&size) {
-        Some(size)
-    } else {
-        None
-    }
-}
-
-// The size of quartic maps that the word spells, where there is one.
-fn quartic_size(word: &String) -> Option<u32>
-    ensures { MatchOption result
-        ((size : ℕ) → IsQuarticSize size → string_bytes word.now ≢ decimal size)
-        (λ size. IsQuarticSize size × (string_bytes word.now ≡ decimal size)) }
-{
-    let size = small_number(word.as_str())?;
-    if Quartic::admissible(&size) {
-        Some(size)
-    } else {
-        None
-    }
-}
-
-impl Size {
-    // The size of the class that the word spells, where there is one.
-    fn of_word(alloc: Global, class: Class, word: &String) -> Result<Option<Size>, AllocError>
-        ensures { IfOk result (λ found. MatchOption found
-            ((size : Size) → class_of size ≡ class → IsSize size → string_bytes word.now ≢ size_word size)
-            (λ size. (class_of size ≡ class) × IsSize size × (string_bytes word.now ≡ size_word size))) }
-    {
-        match class {
-            Class::General => match general_size(word) {
-                Some(size) => Ok(Some(Size::General(size))),
-                None => Ok(None),
-            },
-            Class::Quartic => match quartic_size(word) {
-                Some(size) => Ok(Some(Size::Quartic(size))),
-                None => Ok(None),
-            },
-            Class::Eulerian => match read_profile(alloc, word.as_str())? {
-                Some(profile) => Ok(Some(Size::Eulerian(profile))),
-                None => Ok(None),
-            },
-            Class::Bipartite => match read_profile(alloc, word.as_str())? {
-                Some(profile) => Ok(Some(Size::Bipartite(profile))),
-                None => Ok(None),
-            },
-        }
-    }
 }
 
 // The count of records that the word spells, where there is one.
@@ -296,12 +156,12 @@ impl Command {
                 Err(matched) => Ok(Err(matched)),
             },
             Verb::Open => match eulerian_alone(words) {
-                Ok(()) => Ok(Ok(Command::Reads(Reader::OfMap(MapTask::OpenEulerian)))),
+                Ok(()) => Ok(Ok(Command::Reads(Reader::OpenEulerian))),
                 Err(matched) => Ok(Err(matched)),
             },
-            Verb::Print(image) => {
+            Verb::OfMap(task) => {
                 if words.is_empty() {
-                    Ok(Ok(Command::Reads(Reader::OfMap(MapTask::Print(image)))))
+                    Ok(Ok(Command::Reads(Reader::OfMap(task))))
                 } else {
                     Ok(Err(0))
                 }

@@ -4,10 +4,10 @@ use Rattle.pm_cli.specs.declared.class.Class.{Class}
 use Rattle.pm_cli.specs.declared.class.Class.TheVariants as class
 use Rattle.pm_cli.specs.declared.class.Size.{Size}
 use Rattle.pm_cli.specs.declared.command.Command.{Command}
-use Rattle.pm_cli.specs.declared.words.Verb.{Verb}
-use Rattle.pm_cli.specs.declared.words.Verb.TheVariants as verb
-use Rattle.pm_cli.specs.Classes.{IsSize}
-use Rattle.pm_cli.specs.Commands.{class_word, size_words, number_words, verb_of, behind, IsCommand, AreDrawNumbers}
+use Rattle.pm_cli.specs.declared.command.Verb.{Verb}
+use Rattle.pm_cli.specs.declared.command.Verb.TheVariants as verb
+use Rattle.pm_cli.specs.Classes.{IsSize, class_word}
+use Rattle.pm_cli.specs.Commands.{size_words, number_words, verb_of, behind, IsCommand, AreDrawNumbers}
 
 -- the words are none of a set; the first k begin words of the set, and no more do
 pub record StopsAt (in_set : List (List ℕ) → Type 0) (words : List (List ℕ)) (k : ℕ) : Type 0 where
@@ -66,7 +66,7 @@ AreTripWords words = AreSizedWords AreSeedWords words
 abbrev pub AreBehind : Verb → List (List ℕ) → Type 0
 AreBehind verb.Close = IsOneOf (λ word. word ≡ class_word class.Eulerian)
 AreBehind verb.Open = IsOneOf (λ word. word ≡ class_word class.Eulerian)
-AreBehind (verb.Print image) = λ words. words ≡ []
+AreBehind (verb.OfMap task) = λ words. words ≡ []
 AreBehind verb.Check = IsOneOf IsClassWord
 AreBehind verb.Sample = AreSizeWords
 AreBehind verb.Unsample = IsOneOf IsClassWord

@@ -1,23 +1,11 @@
 use Rattle.pm_map.proofs.DualMaps.{dual_is_rooted}
-use Rattle.pm_cli.specs.declared.command.Image.TheVariants.{Dual}
-use Rattle.pm_cli.specs.MapAnswers.{AnswersMap, told, no_map, image_relation}
-use Rattle.pm_cli.proofs.OneMapAnswer.{rooted_map}
-use Rattle.pm_cli.proofs.Refusals.{passed_on}
+use Rattle.pm_cli.specs.steps.Answering.{tells}
 use Rattle.pm_cli.proofs.printing.print_dual.Goals as goal
 
-pub returns-in_err-map : goal.returns-in_err-map
-returns-in_err-map c = passed_on (AnswersMap (image_relation Dual) c.args.bytes.now) _ (λ refusal h. no_map refusal h) c.in_err-map.field-0.0 _ c.in_err-map.ensures c.from_residual.ensures.1
-
 pub returns : goal.returns
-returns c =
-    told _ (record {
-      residue = c.in_ok-map.ensures.0;
-      map = c.in_ok-map.map;
-      answered = c.in_ok-map.ensures.1;
-      holds = record {
-        other = c.in_ok-image.image;
-        rooted = dual_is_rooted c.in_ok-map.map c.in_ok-image.image (rooted_map c.args.bytes.now _ c.in_ok-map.ensures.0 c.in_ok-map.map c.in_ok-map.ensures.1) c.in_ok-image.ensures;
-        is_image = c.in_ok-image.ensures;
-        is_text = c.in_ok-canonical_bytes.ensures;
-      };
-    })
+returns c = tells _ (record {
+  other = c.in_ok-image.image;
+  rooted = dual_is_rooted c.args.map.now c.in_ok-image.image c.requires c.in_ok-image.ensures;
+  is_image = c.in_ok-image.ensures;
+  is_text = c.in_ok-canonical_bytes.ensures;
+})

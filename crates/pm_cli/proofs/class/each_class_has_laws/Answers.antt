@@ -1,5 +1,5 @@
 use Rattle.pm_cli.proofs.ClassLaws.{are_samplers}
-use Rattle.pm_cli.proofs.class_laws.each_class_has_laws.Goals as goal
+use Rattle.pm_cli.proofs.class.each_class_has_laws.Goals as goal
 
 pub returns : goal.returns
 returns c = are_samplers c.law.ensures c.law-2.ensures c.law-3.ensures c.law-4.ensures
