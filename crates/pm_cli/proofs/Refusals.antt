@@ -23,12 +23,24 @@ stopped refuses other same Memory h = tt
 stopped refuses other same Read h = absurd h
 stopped refuses other same Write h = absurd h
 
--- the same of the answer that a `?` passes on
+-- what holds of the stop that a `?` answers, holds of the result
+pub stopped_at : {X : Type 0} (P : Result X Stop → Type 0) (stops : Stop → Type 0) → ((stop : Stop) → stops stop → P (Err stop)) → (result : Result X Stop) → IsErrAnd result stops → P result
+stopped_at P stops holds (Ok value) is = absurd is
+stopped_at P stops holds (Err stop) is = holds stop is
+
+pub stopped_as : {X : Type 0} (P : Result X Stop → Type 0) (known : Stop) → P (Err known) → (result : Result X Stop) → IsErrAnd result (λ stop. stop ≡ known) → P result
+stopped_as P known holds result is = stopped_at P (λ stop. stop ≡ known) (λ stop e. subst (λ (s : Stop). P (Err s)) (sym e) holds) result is
+
+-- so it is of the refusal of an answer
+pub refused_on : (answers : Result (List ℕ) Refusal → Type 0) (refuses : Refusal → Type 0) → ((refusal : Refusal) → refuses refusal → answers (Err refusal))
+    → (result : Result (Vec ℕ Global) Stop) → IsErrAnd result (StopsBy refuses) → IsAnswerBy answers result
+refused_on answers refuses same result is = stopped_at (IsAnswerBy answers) (StopsBy refuses) (λ stop h. stopped refuses (λ refusal. answers (Err refusal)) same stop h) result is
+
+-- and of one that was refused before
 pub passed_on : (answers : Result (List ℕ) Refusal → Type 0) (refuses : Refusal → Type 0) → ((refusal : Refusal) → refuses refusal → answers (Err refusal))
     → (stop : Stop) (result : Result (Vec ℕ Global) Stop) → StopsBy refuses stop → IsErrAnd result (λ s. s ≡ stop) → IsAnswerBy answers result
-passed_on answers refuses same stop (Ok text) h is = absurd is
-passed_on answers refuses same stop (Err other) h is =
-    subst (StopsBy (λ refusal. answers (Err refusal))) (sym is) (stopped refuses (λ refusal. answers (Err refusal)) same stop h)
+passed_on answers refuses same stop result h is =
+    stopped_as (IsAnswerBy answers) stop (stopped refuses (λ refusal. answers (Err refusal)) same stop h) result is
 
 no_rule : {refusal : Refusal} → None ≡ Some refusal → ⊥
 no_rule e = cc

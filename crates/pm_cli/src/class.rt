@@ -7,7 +7,6 @@ ghost use Rattle.pm_cli.specs.steps.ClassLaws.{IsSampler};
 
 use crate::laws::law;
 use crate::profile_word::{read_profile, small_number};
-use crate::words::is_word;
 use pm_class::MapClass;
 use pm_euler::{Eulerian, Quartic};
 use pm_general::{Bipartite, General};
@@ -45,19 +44,13 @@ impl Class {
     pub(crate) fn of_word(word: &String) -> Option<Class>
         ensures { MatchOption result ((class : Class) → string_bytes word.now ≢ class_word class) (λ class. string_bytes word.now ≡ class_word class) }
     {
-        if is_word(word, "general") {
-            return Some(Class::General);
+        match word.as_str() {
+            "general" => Some(Class::General),
+            "quartic" => Some(Class::Quartic),
+            "eulerian" => Some(Class::Eulerian),
+            "bipartite" => Some(Class::Bipartite),
+            _ => None,
         }
-        if is_word(word, "quartic") {
-            return Some(Class::Quartic);
-        }
-        if is_word(word, "eulerian") {
-            return Some(Class::Eulerian);
-        }
-        if is_word(word, "bipartite") {
-            return Some(Class::Bipartite);
-        }
-        None
     }
 }
 

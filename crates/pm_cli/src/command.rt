@@ -4,7 +4,6 @@ ghost use Rattle.pm_cli.specs.declared.command.Verb.{Verb};
 ghost use Rattle.pm_cli.specs.Commands.{verb_word};
 
 use crate::class::{Class, Size};
-use crate::words::is_word;
 
 /// A command, by where its answer comes from.
 #[derive(Drop)]
@@ -73,39 +72,19 @@ impl Verb {
     pub(crate) fn of_word(word: &String) -> Option<Verb>
         ensures { MatchOption result ((verb : Verb) → string_bytes word.now ≢ verb_word verb) (λ verb. string_bytes word.now ≡ verb_word verb) }
     {
-        if is_word(word, "close") {
-            return Some(Verb::Close);
+        match word.as_str() {
+            "close" => Some(Verb::Close),
+            "open" => Some(Verb::Open),
+            "canon" => Some(Verb::OfMap(MapTask::Canon)),
+            "medial" => Some(Verb::OfMap(MapTask::Medial)),
+            "unmedial" => Some(Verb::OfMap(MapTask::Unmedial)),
+            "dual" => Some(Verb::OfMap(MapTask::Dual)),
+            "check" => Some(Verb::Check),
+            "sample" => Some(Verb::Sample),
+            "unsample" => Some(Verb::Unsample),
+            "draw" => Some(Verb::Draw),
+            "trip" => Some(Verb::Trip),
+            _ => None,
         }
-        if is_word(word, "open") {
-            return Some(Verb::Open);
-        }
-        if is_word(word, "canon") {
-            return Some(Verb::OfMap(MapTask::Canon));
-        }
-        if is_word(word, "medial") {
-            return Some(Verb::OfMap(MapTask::Medial));
-        }
-        if is_word(word, "unmedial") {
-            return Some(Verb::OfMap(MapTask::Unmedial));
-        }
-        if is_word(word, "dual") {
-            return Some(Verb::OfMap(MapTask::Dual));
-        }
-        if is_word(word, "check") {
-            return Some(Verb::Check);
-        }
-        if is_word(word, "sample") {
-            return Some(Verb::Sample);
-        }
-        if is_word(word, "unsample") {
-            return Some(Verb::Unsample);
-        }
-        if is_word(word, "draw") {
-            return Some(Verb::Draw);
-        }
-        if is_word(word, "trip") {
-            return Some(Verb::Trip);
-        }
-        None
     }
 }

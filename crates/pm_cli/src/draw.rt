@@ -14,7 +14,7 @@ use crate::trip::trip;
 use crate::writing::write_text;
 use pm_class::{MapClass, each_list_is_sampled};
 use pm_draw::{draw_list, rng_of};
-use pm_io::{Failed, Sink};
+use pm_io::Sink;
 use pm_lists::{Bounds, put_list};
 use rand_pcg::Pcg64;
 use std::alloc::{AllocError, Global};
@@ -65,26 +65,15 @@ fn draw<C: MapClass, O: Sink>(
         (HasFirstRecords (C.choice_limits size.now) (C.samples size.now) seed count)
         (O.holds out.old) (O.holds out.new) (O.faults out.old) (O.faults out.new) result }
 {
-    let bounds = match C::choice_bounds(alloc, size) {
-        Ok(bounds) => bounds,
-        Err(_) => return Err(Stop::Memory),
-    };
+    let bounds = C::choice_bounds(alloc, size)?;
     records_go_on::<C>(size, bounds.values());
     let mut rng = rng_of(seed);
     'records: for _place in 0..count {
-        let record = match draw_record::<C>(alloc, size, &bounds, &mut rng) {
-            Ok(record) => record,
-            Err(_) => return Err(Stop::Memory),
-        };
-        match out.write(&record) {
-            Ok(()) => {}
-            Err(Failed) => return Err(Stop::Write),
-        }
+        let record = draw_record::<C>(alloc, size, &bounds, &mut rng)?;
+        out.write(&record)?;
     }
-    match out.flush() {
-        Ok(()) => Ok(()),
-        Err(Failed) => Err(Stop::Write),
-    }
+    out.flush()?;
+    Ok(())
 }
 
 // Does a task with a size of a class, and writes its answer.
@@ -107,10 +96,7 @@ pub(crate) fn make_of<C: MapClass, O: Sink>(
     match task {
         Maker::Draw { seed, count } => draw::<C, O>(alloc, size, *seed, *count, out),
         Maker::Trip { seed } => {
-            let text = match trip::<C>(alloc, size, *seed) {
-                Ok(text) => text,
-                Err(_) => return Err(Stop::Memory),
-            };
+            let text = trip::<C>(alloc, size, *seed)?;
             write_text(out, &text)
         }
     }

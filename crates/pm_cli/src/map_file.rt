@@ -15,10 +15,8 @@ pub(crate) fn map_of_file(alloc: Global, bytes: &[u8], limit: u32) -> Result<Roo
     requires limit { limit ≤ MAX_EDGES }
     ensures { IsMapOfFile bytes.now limit result }
 {
-    match read_map_file(alloc, bytes, limit) {
-        Ok((map, _residue)) => Ok(map),
-        Err(refusal) => Err(Stop::from(refusal)),
-    }
+    let (map, _residue) = read_map_file(alloc, bytes, limit)?;
+    Ok(map)
 }
 
 // The map of a map file with its residue line that has at most so many edges, and the numbers of that line.
@@ -31,8 +29,5 @@ pub(crate) fn pair_of_file(
     requires limit { limit ≤ MAX_EDGES }
     ensures { IsPairOfFile bytes.now limit result }
 {
-    match read_sample_file(alloc, bytes, limit) {
-        Ok(pair) => Ok(pair),
-        Err(refusal) => Err(Stop::from(refusal)),
-    }
+    Ok(read_sample_file(alloc, bytes, limit)?)
 }

@@ -1,6 +1,7 @@
 //! How a run stops at what the crates below refuse.
 use crate::refusal::{Limit, MapRule, Refusal, Stop};
 use pm_class::UnsampleRefusal;
+use pm_io::Failed;
 use pm_map::{ClassRefusal, MapRefusal};
 use pm_mapfile::FileRefusal;
 use std::alloc::AllocError;
@@ -13,6 +14,17 @@ impl From<AllocError> for Stop {
 
     fn from(_: AllocError) -> Stop {
         Stop::Memory
+    }
+}
+
+impl From<Failed> for Stop {
+    ghost use Rattle.std.specs.Prelude.{◌≡◌};
+    ghost use Rattle.pm_cli.specs.declared.refusal.Stop.TheVariants.{Write};
+
+    ghost from_gives = { λ _ stop. stop ≡ Write };
+
+    fn from(_: Failed) -> Stop {
+        Stop::Write
     }
 }
 

@@ -27,8 +27,6 @@ pub(crate) fn unsample<C: MapClass>(
     }) bytes.now) result }
 {
     let (map, residue) = pair_of_file(alloc, bytes, most_edges)?;
-    match C::unsample(alloc, &map, residue.values()) {
-        Ok(choices) => Ok(choices_text(alloc, &choices)?),
-        Err(refusal) => Err(Stop::from(refusal)),
-    }
+    let choices = C::unsample(alloc, &map, residue.values())?;
+    Ok(choices_text(alloc, &choices)?)
 }

@@ -7,7 +7,7 @@ ghost use Rattle.pm_cli.specs.declared.command.Verb.{Verb};
 ghost use Rattle.pm_cli.specs.declared.command.Verb.TheVariants.{Close, Sample, Draw, Trip};
 ghost use Rattle.pm_cli.specs.declared.command.Reader.{Reader};
 ghost use Rattle.pm_cli.specs.Classes.{IsSize, class_word};
-ghost use Rattle.pm_cli.specs.Commands.{size_words, IsCommand, Spells, IsNoCommand, AreDrawNumbers, number_words};
+ghost use Rattle.pm_cli.specs.Commands.{size_words, Spells, IsNoCommand, AreDrawNumbers, number_words};
 ghost use Rattle.pm_cli.specs.steps.Words.{StopsAt, IsOneOf, IsClassWord, AreSizeWords, AreNumberWords, AreSeedWords, AreDrawWords, AreTripWords, AreBehind, IsBehind};
 
 use crate::class::{Class, Size};
@@ -22,7 +22,7 @@ pub const MAX_RECORDS: u64 = 1000;
 const _: () = prove!(MAX_RECORDS == 1_000);
 
 // Whether the word is this text.
-pub(crate) fn is_word(word: &String, text: &str) -> bool
+fn is_word(word: &String, text: &str) -> bool
     ensures { IsTrue result ↔ (string_bytes word.now ≡ text.now) }
 {
     word.as_str() == text
