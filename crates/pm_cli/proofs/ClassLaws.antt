@@ -10,7 +10,7 @@ use Rattle.pm_cli.specs.declared.class.Size.{Size}
 use Rattle.pm_cli.specs.declared.class.Size.TheVariants as sizes
 use Rattle.pm_cli.specs.Classes.{Sampler, general_sampler, quartic_sampler, eulerian_sampler, bipartite_sampler, sampler_of, AtSize, at_size, sized, IsSize, class_of, InClass, in_class, class_at, class_word, size_word}
 use Rattle.pm_cli.specs.steps.ClassLaws.{IsSampler, IsAtSize}
-use Rattle.pm_cli.proofs.OneMapAnswer.{IsMapRelation}
+use Rattle.pm_cli.proofs.MapRelations.{IsMapRelation}
 use Rattle.pm_cli.proofs.PairTexts.{one_profile}
 use Rattle.pm_cli.proofs.TaskLaws.{counting_laws}
 use Rattle.pm_cli.proofs.WordTables.{looked_up, one_value}

@@ -21,7 +21,7 @@ use Rattle.pm_cli.specs.Headline.{IsListFile, IsPairFile, IsTextOfGiven, IsTextO
 use Rattle.pm_cli.specs.Sampling.{Samples, sampled, no_list, not_valid}
 use Rattle.pm_cli.specs.Unsampling.{HasPair, HasUnsampledText, rule_of_pair, Unsamples, unsampled, no_map, refused}
 use Rattle.pm_cli.specs.steps.ClassLaws.{IsSampler, IsAtSize}
-use Rattle.pm_cli.proofs.OneMapAnswer.{rooted_map, same_why, value_or_why}
+use Rattle.pm_cli.proofs.MapRelations.{rooted_map, same_why, value_or_why}
 use Rattle.pm_cli.proofs.OneSampling.{valid_or_refused}
 use Rattle.pm_cli.proofs.OneUnsampling.{not_both, one_pair, one_size, not_wrong}
 

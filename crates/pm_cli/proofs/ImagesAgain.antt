@@ -20,7 +20,7 @@ use Rattle.pm_cli.specs.declared.command.Reader.TheVariants.{OfMap}
 use Rattle.pm_cli.specs.Answer.{AnswersReader}
 use Rattle.pm_cli.specs.Laws.{DualsReturn, MedialsReturn, UnmedialsReturn}
 use Rattle.pm_cli.specs.MapAnswers.{HasMap, told, HasCanonicalText, HasTextOf, task_relation}
-use Rattle.pm_cli.proofs.OneMapAnswer.{one_map, rooted_map}
+use Rattle.pm_cli.proofs.MapRelations.{one_map, rooted_map}
 use Rattle.pm_cli.proofs.OpenedAgain.{told_map, canon_map}
 use Rattle.pm_cli.proofs.PrintedAgain.{read_back}
 

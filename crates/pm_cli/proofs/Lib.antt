@@ -7,10 +7,10 @@ pub mod FirstLines
 pub mod HeadlineFiles
 pub mod HeadlineLemmas
 pub mod ImagesAgain
+pub mod MapRelations
 pub mod NoUsage
 pub mod OneAnswer
 pub mod OneClosing
-pub mod OneMapAnswer
 pub mod OneSampling
 pub mod OneText
 pub mod OneUnsampling
@@ -23,7 +23,6 @@ pub mod SampleFiles
 pub mod SampledAgain
 pub mod SomeAnswer
 pub mod SomeClosing
-pub mod SomeMapAnswer
 pub mod SomeSampling
 pub mod SomeUnsampling
 pub mod Sizes

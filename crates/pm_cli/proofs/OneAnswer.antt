@@ -19,7 +19,7 @@ use Rattle.pm_cli.specs.MapAnswers.{task_relation, opening}
 use Rattle.pm_cli.proofs.ClassLaws.{AreSamplers, sized_laws, count_laws}
 use Rattle.pm_cli.proofs.CommandWords.{one_command}
 use Rattle.pm_cli.proofs.OneClosing.{closes_once}
-use Rattle.pm_cli.proofs.OneMapAnswer.{map_answers_once}
+use Rattle.pm_cli.proofs.MapRelations.{map_answers_once}
 use Rattle.pm_cli.proofs.TaskLaws.{task_laws, opening_laws}
 use Rattle.pm_cli.proofs.OneSampling.{samples_once, draws_once, trips_once}
 use Rattle.pm_cli.proofs.OneUnsampling.{HasOneUnsampling, one_unsampling, unsamples_once}

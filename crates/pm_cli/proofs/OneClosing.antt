@@ -21,7 +21,7 @@ use Rattle.pm_cli.specs.declared.refusal.Refusal.{Refusal}
 use Rattle.pm_cli.specs.declared.refusal.Refusal.TheVariants.{Text, Tree}
 use Rattle.pm_cli.specs.TreeFile.{IsTreeFile, HasWord, rule_of_word, RefusesTreeFile, broken, no_tree as no_blossoming}
 use Rattle.pm_cli.specs.Closing.{ClosesTo, IsMatchedPlant, ClosesEulerian, closed, no_tree, matched}
-use Rattle.pm_cli.proofs.OneMapAnswer.{same_why, value_or_why, one_rule, is_rule}
+use Rattle.pm_cli.proofs.MapRelations.{same_why, value_or_why, one_rule, is_rule}
 use Rattle.pm_cli.proofs.OneText.{one_text}
 use Rattle.pm_cli.proofs.FirstLines.{one_word}
 

@@ -18,7 +18,7 @@ use Rattle.pm_cli.specs.declared.refusal.Refusal.{Refusal}
 use Rattle.pm_cli.specs.Classes.{Sampler, InClass}
 use Rattle.pm_cli.specs.Unsampling.{HasPair, MakesNoPair, RefusesSampleFile, rule_of_pair, HasUnsampledText, Unsamples, unsampled, no_map, refused}
 use Rattle.pm_cli.specs.steps.ClassLaws.{IsSampler}
-use Rattle.pm_cli.proofs.OneMapAnswer.{IsRefusedFile, refused_file, one_refusal, read_or_refused, rooted_map, one_rule, is_rule, same_why, same_value, value_or_why}
+use Rattle.pm_cli.proofs.MapRelations.{IsRefusedFile, refused_file, one_refusal, read_or_refused, rooted_map, one_rule, is_rule, same_why, same_value, value_or_why}
 use Rattle.pm_cli.proofs.OneSampling.{valid_or_refused, one_list_refusal}
 
 -- a map and a residue have one answer, but for want of memory

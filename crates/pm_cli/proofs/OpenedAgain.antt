@@ -19,7 +19,7 @@ use Rattle.pm_cli.specs.MapAnswers.{HasMap, MapRelation, AnswersMap, told, no_ma
 use Rattle.pm_cli.specs.TreeFile.{HasWord}
 use Rattle.pm_cli.specs.declared.command.MapTask.TheVariants.{Canon}
 use Rattle.pm_cli.specs.declared.command.Reader.TheVariants.{OpenEulerian, OfMap}
-use Rattle.pm_cli.proofs.OneMapAnswer.{one_map}
+use Rattle.pm_cli.proofs.MapRelations.{one_map}
 
 same_text : {a b : List ℕ} → ◌≡◌ {A = Result (List ℕ) Refusal} (Ok a) (Ok b) → a ≡ b
 same_text e = cc

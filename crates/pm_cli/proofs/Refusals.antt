@@ -1,6 +1,6 @@
 -- What refuses a file, passed on.
 use Rattle.std.proofs.Common.{◌≡◌, ℕ, List, sym, subst}
-use Rattle.std.specs.Prelude.{Option, None, Some, Result, Ok, Err, Vec}
+use Rattle.std.specs.Prelude.{Option, Some, Result, Ok, Err, Vec}
 use Rattle.std.specs.Result.{IsErrAnd}
 use Rattle.std.specs.declared.alloc.Global.{Global}
 use Rattle.pm_map.specs.declared.refusal.MapRefusal.{MapRefusal}
@@ -15,6 +15,7 @@ use Rattle.pm_cli.specs.declared.refusal.Stop.TheVariants.{Refused, Read, Write,
 use Rattle.pm_cli.specs.MapAnswers.{RefusesFile, broken, makes_none, RefusesMapFile, MapRelation, AnswersMap, told, no_map, breaks}
 use Rattle.pm_cli.specs.steps.Answering.{StopsBy, IsAnswerBy, AnswersTo, tells, breaks_rule}
 use Rattle.pm_cli.specs.steps.MapReading.{rule_of_file}
+use Rattle.pm_cli.proofs.MapRelations.{same_some, none_some}
 
 -- a refusal of one kind is one of another
 pub stopped : (refuses other : Refusal → Type 0) → ((refusal : Refusal) → refuses refusal → other refusal) → (stop : Stop) → StopsBy refuses stop → StopsBy other stop
@@ -42,18 +43,12 @@ pub passed_on : (answers : Result (List ℕ) Refusal → Type 0) (refuses : Refu
 passed_on answers refuses same stop result h is =
     stopped_as (IsAnswerBy answers) stop (stopped refuses (λ refusal. answers (Err refusal)) same stop h) result is
 
-no_rule : {refusal : Refusal} → None ≡ Some refusal → ⊥
-no_rule e = cc
-
-some_same : {a b : Refusal} → Some a ≡ Some b → a ≡ b
-some_same e = cc
-
 -- the rule for which a file of a form is refused
 pub file_refused : {Read : Type 0} (form : List ℕ → Type 0) (reads : Read → Result RootedMap MapRefusal → Type 0) (bytes : List ℕ) (why : FileRefusal)
     → IsAnswerOfForm form reads bytes (Err why) → (refusal : Refusal) → rule_of_file why ≡ Some refusal → RefusesFile form (λ made. (read : Read) × reads read (Err made)) bytes refusal
-file_refused {Read} form reads bytes (reading.Text line) h refusal rule = subst (RefusesFile form (λ made. (read : Read) × reads read (Err made)) bytes) (some_same rule) (broken line h)
+file_refused {Read} form reads bytes (reading.Text line) h refusal rule = subst (RefusesFile form (λ made. (read : Read) × reads read (Err made)) bytes) (same_some rule) (broken line h)
 file_refused form reads bytes (reading.Map made) h refusal rule = makes_none refusal made rule h.0
-file_refused form reads bytes reading.Memory h refusal rule = absurd (no_rule rule)
+file_refused form reads bytes reading.Memory h refusal rule = absurd (none_some rule)
 
 -- what is answered to the map of a file, is answered to the file
 module _ (relation : MapRelation) (bytes : List ℕ) (residue : Option (List ℕ)) (map : RotationSystem) (file : AnswersFile bytes relation.limit residue (Ok map)) where

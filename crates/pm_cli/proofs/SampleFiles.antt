@@ -22,7 +22,7 @@ use Rattle.pm_cli.specs.Sampling.{IsChoicesLine, HasChoices, IsSampleText, Sampl
 use Rattle.pm_cli.specs.Unsampling.{Unsamples, unsampled}
 use Rattle.pm_cli.specs.steps.ClassLaws.{IsSampler}
 use Rattle.pm_cli.proofs.ClassLaws.{AreSamplers, by_size}
-use Rattle.pm_cli.proofs.OneMapAnswer.{same_value}
+use Rattle.pm_cli.proofs.MapRelations.{same_value}
 
 samples_text : (at : AtSize) (bytes text : List ℕ) (answer : Result (List ℕ) Refusal) → Samples at bytes answer → answer ≡ Ok text → HasChoices bytes (λ choices. IsSampleText at.samples choices text)
 samples_text at bytes text _ (sampled other h) e = subst (λ (t : List ℕ). HasChoices bytes (λ choices. IsSampleText at.samples choices t)) (same_value e) h

@@ -23,7 +23,7 @@ use Rattle.pm_cli.specs.Sampling.{sampled}
 use Rattle.pm_cli.specs.Unsampling.{HasPair, HasUnsampledText, Unsamples, unsampled, no_map, refused}
 use Rattle.pm_cli.specs.steps.ClassLaws.{IsSampler}
 use Rattle.pm_cli.proofs.ClassLaws.{AreSamplers, HasSize, of_measure}
-use Rattle.pm_cli.proofs.OneMapAnswer.{one_map, rooted_map, same_value}
+use Rattle.pm_cli.proofs.MapRelations.{one_map, rooted_map, same_value}
 use Rattle.pm_cli.proofs.OpenedAgain.{canon_map}
 
 -- a pair that was unsampled, sampled again: at the size of the map the choices give its canonical map, and the residue

@@ -20,7 +20,7 @@ use Rattle.pm_cli.specs.Laws.{IsAnswered, HasSomeAnswer}
 use Rattle.pm_cli.specs.MapAnswers.{task_relation, opening}
 use Rattle.pm_cli.proofs.ClassLaws.{AreSamplers, sized_laws, most, count_laws}
 use Rattle.pm_cli.proofs.SomeClosing.{closes_answered}
-use Rattle.pm_cli.proofs.SomeMapAnswer.{map_answered}
+use Rattle.pm_cli.proofs.MapRelations.{map_answered}
 use Rattle.pm_cli.proofs.SomeSampling.{samples_answered, draws_answered, trips_answered}
 use Rattle.pm_cli.proofs.SomeUnsampling.{unsamples_answered}
 use Rattle.pm_cli.proofs.TaskLaws.{task_laws, opening_laws}

@@ -22,8 +22,7 @@ use Rattle.pm_cli.specs.Laws.{IsAnswered}
 use Rattle.pm_cli.specs.MapAnswers.{broken, makes_none}
 use Rattle.pm_cli.specs.Unsampling.{Unsamples, unsampled, no_map, refused}
 use Rattle.pm_cli.specs.steps.ClassLaws.{IsSampler}
-use Rattle.pm_cli.proofs.OneMapAnswer.{rooted_map}
-use Rattle.pm_cli.proofs.SomeMapAnswer.{rule_of_lines_is, rule_of_class_is}
+use Rattle.pm_cli.proofs.MapRelations.{rooted_map, rule_of_lines_is, rule_of_class_is}
 use Rattle.pm_cli.proofs.SomeSampling.{valid_or_refusal}
 
 module _ (S : Sampler) (laws : IsSampler S) (bytes : List ℕ) (answered : (answer : Result (List ℕ) Refusal) → Unsamples (in_class S) bytes answer → ⊥) where

@@ -25,9 +25,7 @@ filled n e = grind (arith, nat_tests)
 
 -- some words
 pub some_words : {X : Type 0} (f : X → List ℕ) (xs : List X) → false ≡ (length xs == 0) → 0 < length (map f xs)
-some_words f xs e = let l = length-map xs f in let some = positive (length xs) e in omega arith where
-  positive : (n : ℕ) → false ≡ (n == 0) → 0 < n
-  positive n e = grind (arith, nat_tests)
+some_words f xs e = let l = length-map xs f in let some = filled (length xs) e in omega arith
 
 pub false_true : IsTrue false → ⊥
 false_true e = cc

@@ -39,7 +39,7 @@ use Rattle.pm_cli.specs.declared.command.Verb.TheVariants as verb
 use Rattle.pm_cli.specs.Commands.{verb_word}
 use Rattle.pm_cli.specs.MapAnswers.{MapRelation, HasCanonicalText, HasTextOf, HasNoDart, empty, HasOtherDegrees, no_dart, other_degree, task_relation, PrintsImage, counts_line, counting, HasOpenText, opening}
 use Rattle.pm_cli.specs.TreeFile.{IsTreeLine}
-use Rattle.pm_cli.proofs.OneMapAnswer.{same_why, value_or_why, IsMapRelation}
+use Rattle.pm_cli.proofs.MapRelations.{same_why, value_or_why, IsMapRelation}
 use Rattle.pm_cli.proofs.OneText.{one_text}
 use Rattle.pm_cli.proofs.WordTables.{looked_up, one_value}
 

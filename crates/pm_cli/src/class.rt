@@ -81,22 +81,10 @@ impl Size {
             (λ size. (class_of size ≡ class) × IsSize size × (string_bytes word.now ≡ size_word size))) }
     {
         match class {
-            Class::General => match number_size::<General>(word) {
-                Some(size) => Ok(Some(Size::General(size))),
-                None => Ok(None),
-            },
-            Class::Quartic => match number_size::<Quartic>(word) {
-                Some(size) => Ok(Some(Size::Quartic(size))),
-                None => Ok(None),
-            },
-            Class::Eulerian => match read_profile(alloc, word.as_str())? {
-                Some(profile) => Ok(Some(Size::Eulerian(profile))),
-                None => Ok(None),
-            },
-            Class::Bipartite => match read_profile(alloc, word.as_str())? {
-                Some(profile) => Ok(Some(Size::Bipartite(profile))),
-                None => Ok(None),
-            },
+            Class::General => Ok(number_size::<General>(word).map(Size::General)),
+            Class::Quartic => Ok(number_size::<Quartic>(word).map(Size::Quartic)),
+            Class::Eulerian => Ok(read_profile(alloc, word.as_str())?.map(Size::Eulerian)),
+            Class::Bipartite => Ok(read_profile(alloc, word.as_str())?.map(Size::Bipartite)),
         }
     }
 }

@@ -151,14 +151,10 @@ impl Command {
             (λ k. (k < 5) × StopsAt (AreBehind verb) (map string_bytes words.now) k)) }
     {
         match verb {
-            Verb::Close => match eulerian_alone(words) {
-                Ok(()) => Ok(Ok(Command::Reads(Reader::CloseEulerian))),
-                Err(matched) => Ok(Err(matched)),
-            },
-            Verb::Open => match eulerian_alone(words) {
-                Ok(()) => Ok(Ok(Command::Reads(Reader::OpenEulerian))),
-                Err(matched) => Ok(Err(matched)),
-            },
+            Verb::Close => Ok(eulerian_alone(words).map(|()| Command::Reads(
+                Reader::CloseEulerian,
+            ))),
+            Verb::Open => Ok(eulerian_alone(words).map(|()| Command::Reads(Reader::OpenEulerian))),
             Verb::OfMap(task) => {
                 if words.is_empty() {
                     Ok(Ok(Command::Reads(Reader::OfMap(task))))
@@ -166,14 +162,10 @@ impl Command {
                     Ok(Err(0))
                 }
             }
-            Verb::Check => match class_alone(words) {
-                Ok(class) => Ok(Ok(Command::Reads(Reader::Check(class)))),
-                Err(matched) => Ok(Err(matched)),
-            },
-            Verb::Unsample => match class_alone(words) {
-                Ok(class) => Ok(Ok(Command::Reads(Reader::Unsample(class)))),
-                Err(matched) => Ok(Err(matched)),
-            },
+            Verb::Check => Ok(class_alone(words).map(|class| Command::Reads(Reader::Check(class)))),
+            Verb::Unsample => Ok(class_alone(words).map(|class| Command::Reads(Reader::Unsample(
+                class,
+            )))),
             Verb::Sample => Command::of_sample(alloc, words),
             Verb::Draw => Command::of_draw(alloc, words),
             Verb::Trip => Command::of_trip(alloc, words),

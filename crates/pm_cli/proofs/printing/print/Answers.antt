@@ -3,9 +3,8 @@ use Rattle.std.specs.Prelude.{Ok}
 use Rattle.pm_mapfile.specs.Answers.{AnswersFile}
 use Rattle.pm_cli.specs.MapAnswers.{task_relation, RefusesMapFile}
 use Rattle.pm_cli.specs.steps.Answering.{StopsBy}
-use Rattle.pm_cli.proofs.OneMapAnswer.{rooted_map}
+use Rattle.pm_cli.proofs.MapRelations.{rooted_map, map_is_few}
 use Rattle.pm_cli.proofs.Refusals.{answered_map, file_passed_on}
-use Rattle.pm_cli.proofs.SomeMapAnswer.{map_is_few}
 use Rattle.pm_cli.proofs.printing.print.Goals as goal
 
 pub returns-in_err-map : goal.returns-in_err-map
