@@ -21,7 +21,7 @@ pub mod NumberedEdges
 pub mod SameMaps
 pub mod SearchLemmas
 pub mod SimpleDarts
-mod SimpleLemmas
+mod EndsLemmas
 pub mod SomeParts
 pub mod StructureRotations
 pub mod TableLemmas

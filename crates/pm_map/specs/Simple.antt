@@ -1,6 +1,9 @@
 -- Simple maps: no loop, and no two edges with the same ends.
 use Rattle.std.specs.Prelude.{◌≢◌, ℕ, ◌<◌, ◌⊎◌}
 use Rattle.pm_perm.specs.Cycles.{IsInCycle}
+use Rattle.pm_perm.specs.Least.{IsLeast}
+use Rattle.pm_map.specs.declared.simple.NotSimple.{NotSimple}
+use Rattle.pm_map.specs.declared.simple.NotSimple.TheVariants.{Loop, Double}
 use Rattle.pm_map.specs.Structure.{Structure}
 
 -- two darts are at one vertex: the second is met from the first around the vertex
@@ -28,3 +31,22 @@ pub record IsDouble (s : Structure) (d : ℕ) : Type 0 where
   pub differs : other ≢ d
   pub near : AreAtOneVertex s d other
   pub far : AreAtOneVertex s (s.twin d) (s.twin other)
+
+-- no dart's edge is a loop, and the least one whose edge is
+abbrev pub HasNoLoop : Structure → Type 0
+HasNoLoop s = (d : ℕ) → d < s.darts → IsLoop s d → ⊥
+
+abbrev pub IsLeastLoop : Structure → ℕ → Type 0
+IsLeastLoop s d = IsLeast s.darts (λ e. IsLoop s e → ⊥) (IsLoop s) d
+
+-- no dart's edge has a double, and the least one whose edge has
+abbrev pub HasNoDouble : Structure → Type 0
+HasNoDouble s = (d : ℕ) → d < s.darts → IsDouble s d → ⊥
+
+abbrev pub IsLeastDouble : Structure → ℕ → Type 0
+IsLeastDouble s d = IsLeast s.darts (λ e. IsDouble s e → ⊥) (IsDouble s) d
+
+-- why a structure isn't simple: the least loop, or the least double where there is no loop
+abbrev pub IsNotSimple : Structure → NotSimple → Type 0
+IsNotSimple s (Loop dart) = IsLeastLoop s dart
+IsNotSimple s (Double dart) = HasNoLoop s × IsLeastDouble s dart

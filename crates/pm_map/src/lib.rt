@@ -31,6 +31,7 @@ pub use laws::{
 };
 pub use refusal::MapRefusal;
 pub use rooted_map::RootedMap;
+pub use simple::NotSimple;
 
 #[cfg(test)]
 mod tests;

@@ -75,30 +75,43 @@ fn too_many(rt: HostRuntime) -> Result<(), Fail> {
     Ok(())
 }
 
-// How many vertices, edges and faces, the degrees of the vertices and of the faces, and whether it is simple: no dart,
-// two loops, a double edge, a loop and two edges, a tetrahedron.
+// How many vertices, edges and faces, the degrees of the vertices and of the faces, and why it isn't simple: no dart,
+// two loops, a double edge, a loop and two edges, an edge and a double edge, a tetrahedron.
 #[test]
 fn counts_and_degrees(rt: HostRuntime) -> Result<(), Fail> {
-    let rows: [(&[u32], [u32; 3], &[u32], &[u32], bool); 5] = [
-        (&[], [1, 0, 1], &[], &[], true),
-        (&LOOPS, [1, 2, 3], &[4, 4, 4, 4], &[2, 1, 2, 1], false),
+    let rows: [(&[u32], [u32; 3], &[u32], &[u32], Option<NotSimple>); 6] = [
+        (&[], [1, 0, 1], &[], &[], None),
+        (
+            &LOOPS,
+            [1, 2, 3],
+            &[4, 4, 4, 4],
+            &[2, 1, 2, 1],
+            Some(NotSimple::Loop { dart: 0 }),
+        ),
         (
             &[2, 3, 0, 1],
             [2, 2, 2],
             &[2, 2, 2, 2],
             &[2, 2, 2, 2],
-            false,
+            Some(NotSimple::Double { dart: 0 }),
         ),
         (
             &LOOP_AND_TWO_EDGES,
             [2, 3, 3],
             &[2, 4, 2, 4, 4, 4],
             &[2, 3, 3, 2, 3, 1],
-            false,
+            Some(NotSimple::Loop { dart: 4 }),
         ),
-        (&TETRAHEDRON, [4, 6, 4], &[3; 12], &[3; 12], true),
+        (
+            &[0, 2, 4, 5, 1, 3],
+            [3, 3, 2],
+            &[1, 3, 3, 2, 3, 2],
+            &[4, 4, 4, 2, 2, 4],
+            Some(NotSimple::Double { dart: 2 }),
+        ),
+        (&TETRAHEDRON, [4, 6, 4], &[3; 12], &[3; 12], None),
     ];
-    for (sigma, [vertices, edges, faces], of_vertices, of_faces, simple) in rows {
+    for (sigma, [vertices, edges, faces], of_vertices, of_faces, why) in rows {
         let answer = answer_of(rt.alloc(), sigma, 0)?;
         assert!(rt; matches!(&answer, Some(Ok(_))));
         let Some(Ok(map)) = answer else { return Ok(()) };
@@ -116,7 +129,8 @@ fn counts_and_degrees(rt: HostRuntime) -> Result<(), Fail> {
         assert_eq!(rt; degrees.as_slice(), of_vertices);
         map.face_degrees(&mut degrees);
         assert_eq!(rt; degrees.as_slice(), of_faces);
-        assert_eq!(rt; map.is_simple(rt.alloc())?, simple);
+        assert_eq!(rt; map.why_not_simple(rt.alloc())?, why);
+        assert_eq!(rt; map.is_simple(rt.alloc())?, why.is_none());
     }
     Ok(())
 }
