@@ -25,6 +25,7 @@ mod EndsLemmas
 pub mod SomeParts
 pub mod StructureRotations
 pub mod TableLemmas
+pub mod TriangulationAnswers
 pub mod TwinLemmas
 pub mod UniqueCanonical
 pub mod UniqueMeeting

@@ -5,10 +5,12 @@ use Rattle.pm_map.specs.declared.class_refusal.ClassRefusal.{ClassRefusal}
 use Rattle.pm_map.specs.declared.class_refusal.ClassRefusal.TheVariants.{Memory, Empty, TooMany, Vertex, Face, Loop, Double}
 use Rattle.pm_map.specs.declared.admitted.Degrees.{Degrees}
 use Rattle.pm_map.specs.declared.admitted.Degrees.TheVariants.{Exactly, EvenUpTo}
-use Rattle.pm_map.specs.Structure.{Structure}
+use Rattle.pm_map.specs.Structure.{Structure, dual}
 use Rattle.pm_map.specs.Rotation.{RotationSystem, structure_of}
 use Rattle.pm_map.specs.CycleSize.{IsCycleSize}
-use Rattle.pm_map.specs.Classes.{IsQuartic}
+use Rattle.pm_map.specs.declared.simple.NotSimple.TheVariants as why
+use Rattle.pm_map.specs.Classes.{IsQuartic, IsTriangulation}
+use Rattle.pm_map.specs.Simple.{IsNotSimple}
 
 -- the degree is one of these
 abbrev pub IsAdmitted : Degrees → ℕ → Type 0
@@ -40,3 +42,15 @@ IsQuarticAnswer m (Err (TooMany edges)) = ⊥
 IsQuarticAnswer m (Err (Face dart)) = ⊥
 IsQuarticAnswer m (Err (Loop dart)) = ⊥
 IsQuarticAnswer m (Err (Double dart)) = ⊥
+
+-- What a map is answered that should be a triangulation: its size, or the first rule that it breaks. Want of memory may come
+-- at any map.
+abbrev pub IsTriangulationAnswer : RotationSystem → Result ℕ ClassRefusal → Type 0
+IsTriangulationAnswer m (Ok n) = IsTriangulation (structure_of m) n
+IsTriangulationAnswer m (Err Empty) = length m.sigma ≡ 0
+IsTriangulationAnswer m (Err (Face dart)) = IsLeastOther (dual (structure_of m)) (Exactly 3) dart
+IsTriangulationAnswer m (Err (Loop dart)) = AllAdmitted (dual (structure_of m)) (Exactly 3) × IsNotSimple (structure_of m) (why.Loop dart)
+IsTriangulationAnswer m (Err (Double dart)) = AllAdmitted (dual (structure_of m)) (Exactly 3) × IsNotSimple (structure_of m) (why.Double dart)
+IsTriangulationAnswer m (Err Memory) = ⊤
+IsTriangulationAnswer m (Err (TooMany edges)) = ⊥
+IsTriangulationAnswer m (Err (Vertex dart)) = ⊥
