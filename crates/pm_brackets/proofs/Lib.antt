@@ -7,6 +7,7 @@ pub mod LetterTurns
 pub mod Levels
 pub mod Nesting
 mod Pairing
+pub mod PlantedAt
 mod Reading
 pub mod Replants
 pub mod RingPlaces

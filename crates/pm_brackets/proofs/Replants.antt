@@ -5,13 +5,14 @@ use Rattle.std.proofs.lemmas.Bool.{cases_lt}
 use Rattle.std.proofs.lemmas.List.{length_push, get_or_push, get_or_append_left}
 use Rattle.pm_brackets.specs.declared.letters.TheConstants.{OPEN, CLOSE}
 use Rattle.pm_brackets.specs.Word.{IsOther, IsMatched, IsLetterAt, count}
-use Rattle.pm_brackets.specs.Ring.{place_from, number_after, IsTurned, IsPlantedAnew}
+use Rattle.pm_brackets.specs.Ring.{place_from, number_after, IsTurned, IsReplantedAt}
 use Rattle.pm_brackets.specs.steps.TurnedLetter.{IsTurnedLetter}
-use Rattle.pm_brackets.proofs.Tally.{tally_is, tally_no}
+use Rattle.pm_brackets.proofs.Tally.{tally, tally_is, tally_no}
 use Rattle.pm_brackets.proofs.LetterCounts.{plant_is_first}
+use Rattle.pm_brackets.proofs.Dyck.{IsDyck, matched_from_dyck}
 use Rattle.pm_brackets.proofs.Bracketed.{bracketing_exists}
 use Rattle.pm_brackets.proofs.RingPlaces.{mod_stays, steps_to, steps_to_is, steps_under, steps_lead, steps_back, plain_letter, turned_letters, one_ring, turned_back}
-use Rattle.pm_brackets.proofs.Rings.{ring_turned, none_stays}
+use Rattle.pm_brackets.proofs.Rings.{ring_turned, none_stays, tallies_stay}
 use Rattle.pm_brackets.proofs.LetterTurns.{letter_within, place_exists, one_place, turned_number}
 
 -- the number of the old plant leads back to that of the new one
@@ -101,7 +102,7 @@ module _ (plant : ℕ) (bare : IsOther plant) where
 
 -- the laws, of a plant that is no letter of those past the end
 module _ (plant : ℕ) (bare : IsOther plant) (some : 0 < plant) where
-  pub planted_unique : (word : List ℕ) (number : ℕ) (one other : List ℕ) → IsMatched word → IsPlantedAnew plant word number one → IsPlantedAnew plant word number other → one ≡ other
+  pub planted_unique : (word : List ℕ) (number : ℕ) (one other : List ℕ) → IsMatched word → IsReplantedAt plant word number one → IsReplantedAt plant word number other → one ≡ other
   planted_unique word number one other matched r s =
       let e : r.start ≡ s.start = one_place plant some (plant ∷ word) number r.start s.start r.is_start s.is_start in
       let l = letter_within plant some (plant ∷ word) number s.start s.is_start in
@@ -109,7 +110,7 @@ module _ (plant : ℕ) (bare : IsOther plant) (some : 0 < plant) where
       let same : ◌≡◌ {A = List ℕ} (plant ∷ one) (plant ∷ other) = same_rings plant bare word (plant ∷ one) (plant ∷ other) s.start matched l (subst P e r.is_turned) s.is_turned in
       ap (drop 1) same
 
-  pub planted_exists : (word : List ℕ) (number : ℕ) → IsMatched word → number < count plant (plant ∷ word) → (planted : List ℕ) × IsPlantedAnew plant word number planted
+  pub planted_exists : (word : List ℕ) (number : ℕ) → IsMatched word → number < count plant (plant ∷ word) → (planted : List ℕ) × IsReplantedAt plant word number planted
   planted_exists word number matched l =
       let start = place_exists plant some (plant ∷ word) number l in
       let h = ring_turned (λ ring. Unit {0}) none_stays plant bare word start.place matched tt in
@@ -121,13 +122,13 @@ module _ (plant : ℕ) (bare : IsOther plant) (some : 0 < plant) where
       )
 
   -- the places are counted from the new plant on
-  pub numbers_turned : (word : List ℕ) (planted : ℕ) (turned : List ℕ) → IsMatched word → (r : IsPlantedAnew plant word planted turned) → (number place : ℕ) → place < length (plant ∷ word)
+  pub numbers_turned : (word : List ℕ) (planted : ℕ) (turned : List ℕ) → IsMatched word → (r : IsReplantedAt plant word planted turned) → (number place : ℕ) → place < length (plant ∷ word)
       → IsLetterAt plant (plant ∷ word) number (place_from (plant ∷ word) r.start place) → IsLetterAt plant (plant ∷ turned) (number_after (count plant (plant ∷ word)) planted number) place
   numbers_turned word planted turned matched r number place l h =
       let b = bracketing_exists plant bare word matched in
       turned_number plant some bare (plant ∷ word) b.0 (plant ∷ turned) r.start b.1 (letter_within plant some (plant ∷ word) planted r.start r.is_start) r.is_turned planted number place l r.is_start h
 
-  pub planting_undone : (word : List ℕ) (number : ℕ) (planted : List ℕ) → IsMatched word → IsPlantedAnew plant word number planted → IsPlantedAnew plant planted (number_after (count plant (plant ∷ word)) number 0) word
+  pub planting_undone : (word : List ℕ) (number : ℕ) (planted : List ℕ) → IsMatched word → IsReplantedAt plant word number planted → IsReplantedAt plant planted (number_after (count plant (plant ∷ word)) number 0) word
   planting_undone word number planted matched r =
       let b = bracketing_exists plant bare word matched in
       let l = letter_within plant some (plant ∷ word) number r.start r.is_start in
@@ -138,3 +139,19 @@ module _ (plant : ℕ) (bare : IsOther plant) (some : 0 < plant) where
         is_start = numbers_turned word number planted matched r 0 (steps_to (length (plant ∷ word)) r.start 0) (steps_under (length (plant ∷ word)) r.start 0 (omega arith)) first;
         is_turned = turned_back (plant ∷ word) b.0 (plant ∷ planted) r.start b.1 (omega arith) r.is_turned;
       }
+
+  -- what is planted anew has matched brackets, and each letter as often
+  pub planted_matched : (word : List ℕ) (number : ℕ) (planted : List ℕ) → IsMatched word → IsReplantedAt plant word number planted → IsMatched planted
+  planted_matched word number planted matched r =
+      let h = ring_turned (λ ring. Unit {0}) none_stays plant bare word r.start matched tt in
+      let within = letter_within plant some (plant ∷ word) number r.start r.is_start in
+      let same : h.ring ≡ plant ∷ planted = same_rings plant bare word h.ring (plant ∷ planted) r.start matched within h.turned r.is_turned in
+      matched_inside plant bare planted (matched_from_dyck (plant ∷ planted) (subst IsDyck same h.dyck))
+
+  pub planted_count : (word : List ℕ) (number : ℕ) (planted : List ℕ) (letter : ℕ) → IsMatched word → IsReplantedAt plant word number planted → count letter (plant ∷ planted) ≡ count letter (plant ∷ word)
+  planted_count word number planted letter matched r =
+      let Tallies : List ℕ → Type 0 = λ ring. (z : ℕ) → tally z ring ≡ tally z (plant ∷ word) in
+      let h = ring_turned Tallies (tallies_stay (λ z. tally z (plant ∷ word))) plant bare word r.start matched (λ z. refl) in
+      let within = letter_within plant some (plant ∷ word) number r.start r.is_start in
+      let same : h.ring ≡ plant ∷ planted = same_rings plant bare word h.ring (plant ∷ planted) r.start matched within h.turned r.is_turned in
+      sym (tally_is letter (plant ∷ planted)) ∙ sym (ap (tally letter) same) ∙ h.holds letter ∙ tally_is letter (plant ∷ word)

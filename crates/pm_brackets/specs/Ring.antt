@@ -26,7 +26,7 @@ abbrev pub number_after : ℕ → ℕ → ℕ → ℕ
 number_after total first number = (number + (total - first)) % total
 
 -- the word whose ring is read from the plant's letter of this number on, the plant being number 0
-pub record IsPlantedAnew (plant : ℕ) (word : List ℕ) (number : ℕ) (planted : List ℕ) : Type 0 where
+pub record IsReplantedAt (plant : ℕ) (word : List ℕ) (number : ℕ) (planted : List ℕ) : Type 0 where
   pub start : ℕ
   pub is_start : IsLetterAt plant (plant ∷ word) number start
   pub is_turned : IsTurned (plant ∷ word) start (plant ∷ planted)

@@ -1,7 +1,8 @@
 -- A blossoming tree is planted anew at each of its two free leaves, and is closed there.
 use Rattle.std.proofs.Common.{ℕ, ◌<◌, List, take, refl}
 use Rattle.pm_match.proofs.FreeMarks.{free_marks}
-use Rattle.pm_trees.proofs.PlantedAt.{chosen_exists, anew_from, anew_blossoms}
+use Rattle.pm_brackets.proofs.PlantedAt.{chosen_exists}
+use Rattle.pm_trees.proofs.PlantedAt.{anew_from, anew_blossoms}
 use Rattle.pm_trees.specs.declared.letters.TheConstants.{LEAF}
 use Rattle.pm_trees.specs.Word.{contour}
 use Rattle.pm_brackets.specs.Word.{count}

@@ -1,7 +1,7 @@
 -- Planting a tree anew at a free leaf.
 use Rattle.std.proofs.Common.{◌≡◌, ℕ, ◌+◌, ◌-◌, ◌%◌, ◌<◌, ◌≤◌, List, length, refl, sym, subst, arith}
 use Rattle.pm_match.proofs.FreeMarks.{free_two}
-use Rattle.pm_trees.proofs.PlantedAt.{later_chosen, earlier_chosen, chosen_is}
+use Rattle.pm_brackets.proofs.PlantedAt.{later_chosen, earlier_chosen, chosen_is}
 use Rattle.std.specs.Prelude.{take, slice_index}
 use Rattle.pm_trees.specs.declared.letters.TheConstants.{LEAF}
 use Rattle.pm_trees.specs.Word.{contour}

@@ -1,7 +1,8 @@
 -- The choices of a size give one map and one residue.
 use Rattle.std.proofs.Common.{◌≡◌, ℕ, ◌<◌, List, sym, subst}
 use Rattle.pm_match.proofs.FreeMarks.{free_marks}
-use Rattle.pm_trees.proofs.PlantedAt.{plant_is_marked, one_anew, chosen_is, anew_blossoms, anew_alike}
+use Rattle.pm_trees.proofs.PlantedAt.{plant_is_marked, one_anew, anew_blossoms, anew_alike}
+use Rattle.pm_brackets.proofs.PlantedAt.{chosen_is}
 use Rattle.pm_trees.specs.Word.{contour}
 use Rattle.pm_trees.specs.Blossoming.{IsBlossoming, leaves}
 use Rattle.pm_trees.proofs.LeafTurns.{leaf_few}
@@ -12,7 +13,7 @@ use Rattle.pm_euler.specs.Closed.{IsCanonicalClosure}
 use Rattle.pm_euler.proofs.ClosedMaps.{one_canonical_closure}
 
 pub anew_balances : (word : List ℕ) (free : ℕ) (turned : List ℕ) (old : ℕ) → IsBlossoming word → IsPlantedAnew word free turned old → IsBalanced (contour turned)
-anew_balances word free turned old tree a = plant_is_marked IsFree free_marks word a.leaf a.place turned tree (chosen_is (IsFree (contour word)) free a.place a.is_chosen) a.numbered a.is_replanted
+anew_balances word free turned old tree a = plant_is_marked IsFree free_marks word a.start_number a.place turned tree (chosen_is (IsFree (contour word)) free a.place a.is_chosen) a.numbered a.is_replanted
 
 -- and closed, it gives one canonical map and one old plant
 pub closed_anew_once : (word same_word : List ℕ) (free : ℕ) (one other : List ℕ) (a b : ℕ) (map same_map : RotationSystem) → IsBlossoming word → same_word ≡ word

@@ -1,7 +1,8 @@
 -- The opening of a map, with one of its leaves as the old plant, comes from a tree and one of its free leaves.
 use Rattle.std.proofs.Common.{◌≡◌, ℕ, ◌<◌, inl, inr, List, length, take, sym, ◌∙◌, ap, subst}
 use Rattle.pm_match.proofs.FreeMarks.{free_two, free_marks}
-use Rattle.pm_trees.proofs.PlantedAt.{later_chosen, has_number, earlier_chosen, anew_back, anew_alike}
+use Rattle.pm_brackets.proofs.PlantedAt.{later_chosen, has_number, earlier_chosen}
+use Rattle.pm_trees.proofs.PlantedAt.{anew_back, anew_alike}
 use Rattle.pm_limits.specs.declared.TheConstants.{MAX_DEGREE}
 use Rattle.pm_trees.specs.declared.letters.TheConstants.{LEAF}
 use Rattle.pm_trees.specs.Word.{contour}

@@ -1,6 +1,7 @@
 -- A tree planted anew at one of its two free leaves.
 use Rattle.std.specs.Prelude.{ℕ, List}
-use Rattle.pm_trees.specs.PlantedAt.{IsChosen, IsPlantedAt}
+use Rattle.pm_brackets.specs.PlantedAt.{IsChosen}
+use Rattle.pm_trees.specs.PlantedAt.{IsPlantedAt}
 use Rattle.pm_match.specs.Pair.{IsFree}
 
 -- the free leaf of this number; there are two

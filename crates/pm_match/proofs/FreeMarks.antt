@@ -1,6 +1,7 @@
 -- The free leaves of trees are two marks.
 use Rattle.std.proofs.Common.{List, ℕ}
-use Rattle.pm_trees.specs.PlantedAt.{AreTwo, AreTwoMarks}
+use Rattle.pm_brackets.specs.PlantedAt.{AreTwo}
+use Rattle.pm_trees.specs.PlantedAt.{AreTwoMarks}
 use Rattle.pm_trees.specs.Word.{contour}
 use Rattle.pm_trees.proofs.Balance.{two_more_leaves}
 use Rattle.pm_match.specs.Pair.{IsFree}

@@ -2,8 +2,8 @@
 -- leaf on.
 use Rattle.std.specs.Prelude.{ℕ, List}
 use Rattle.pm_trees.specs.declared.letters.TheConstants.{LEAF}
-use Rattle.pm_brackets.specs.Ring.{IsPlantedAnew}
+use Rattle.pm_brackets.specs.Ring.{IsReplantedAt}
 
 -- the word of the tree planted at the leaf of this number
 abbrev pub IsReplanted : List ℕ → ℕ → List ℕ → Type 0
-IsReplanted word leaf replanted = IsPlantedAnew LEAF word leaf replanted
+IsReplanted word leaf replanted = IsReplantedAt LEAF word leaf replanted

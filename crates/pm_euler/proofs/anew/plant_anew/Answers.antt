@@ -1,6 +1,7 @@
 use Rattle.std.proofs.Common.{subst}
 use Rattle.pm_trees.specs.Word.{contour}
-use Rattle.pm_trees.proofs.PlantedAt.{anew_from, chosen_is, plant_is_marked}
+use Rattle.pm_trees.proofs.PlantedAt.{anew_from, plant_is_marked}
+use Rattle.pm_brackets.proofs.PlantedAt.{chosen_is}
 use Rattle.pm_trees.proofs.LeafTurns.{leaf_few}
 use Rattle.pm_match.specs.Pair.{IsFree}
 use Rattle.pm_match.proofs.FreeMarks.{free_marks}
