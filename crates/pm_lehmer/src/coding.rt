@@ -11,6 +11,7 @@ use std::alloc::{AllocError, Global};
 
 /// The code of the entries: entry k counts the later entries that are smaller than entry k. There are fewer than
 /// 2^32 entries. No list is sorted where the entries lie in a range no longer than they are many, as in a permutation.
+/// Where an entry comes twice, the counts are of single numbers and not of words, which takes longer.
 ///
 /// # Errors
 ///
@@ -101,6 +102,7 @@ fn code_from(alloc: Global, numbers: &[u32], least: u32) -> Result<Vec<u64>, All
     if is_written_by_set(alloc, numbers, least, &mut code)? {
         return Ok(code);
     }
+    // A number comes twice, and a set can't hold it twice.
     let mut counts = vec![in alloc; 0u32; list_length(numbers.len())]?;
     count_later(numbers, least, &mut counts, &mut code);
     Ok(code)
