@@ -4,6 +4,7 @@ pub mod Contained
 pub mod Counts
 pub mod ConnectedEuler
 pub mod EvenCounts
+pub mod Fences
 pub mod FullPairs
 pub mod KeyRings
 pub mod CycleLists
