@@ -1,3 +1,4 @@
+//! The other bracket of each bracket of a word.
 ghost use Rattle.std.specs.Prelude.{◌<◌, ◌^◌, ◌∷◌, ℕ, IfOk, length};
 ghost use Rattle.pm_brackets.specs.Word.{IsBracketing, IsMatched, IsOther};
 

@@ -1,3 +1,4 @@
+//! The brackets, and the letter at a place of a word on a plant.
 ghost use Rattle.std.specs.Prelude.{◌≡◌, ◌≤◌, ◌∷◌, length, slice_index};
 
 /// The beginning of an edge to a child.
