@@ -2,7 +2,7 @@
 _planarmap() {
     local classes='general quartic eulerian bipartite'
     case $COMP_CWORD in
-    1) mapfile -t COMPREPLY < <(compgen -W 'sample unsample draw trip check canon medial unmedial dual close open' -- "$2") ;;
+    1) mapfile -t COMPREPLY < <(compgen -W 'sample unsample draw trip check canon medial unmedial dual layers close open' -- "$2") ;;
     2)
         case ${COMP_WORDS[1]} in
         sample | unsample | draw | trip | check) mapfile -t COMPREPLY < <(compgen -W "$classes" -- "$2") ;;

@@ -1,5 +1,5 @@
 -- The laws of the commands from map files to texts, and the words of all commands.
-use Rattle.std.proofs.Common.{◌≡◌, ℕ, ◌*◌, ◌/◌, ◌<◌, ◌≤◌, inl, inr, List, [], ◌∷◌, length, refl, sym, ap, ◌∙◌, subst, arith}
+use Rattle.std.proofs.Common.{◌≡◌, ℕ, ◌*◌, ◌/◌, ◌<◌, ◌≤◌, inl, inr, List, [], ◌∷◌, ◌++◌, length, refl, sym, ap, ◌∙◌, subst, arith}
 use Rattle.std.specs.Prelude.{Some, Result, Ok, Err, codes}
 use Rattle.std.proofs.lemmas.Bool.{cases_lt}
 use Rattle.pm_limits.specs.declared.TheConstants.{MAX_EDGES, MAX_DEGREE}
@@ -16,7 +16,7 @@ use Rattle.pm_map.specs.Structure.{Same}
 use Rattle.pm_map.proofs.DegreeRules.{least_other_is_unique}
 use Rattle.pm_map.proofs.DualMaps.{dual_is_rooted}
 use Rattle.pm_map.proofs.SameMaps.{same_as_itself}
-use Rattle.pm_map.proofs.UniqueCanonical.{canonical_map_is_rooted, canonical_maps_tell}
+use Rattle.pm_map.proofs.UniqueCanonical.{canonical_map_is_rooted, canonical_map_is_unique, canonical_maps_tell}
 use Rattle.pm_canon.proofs.ExistenceLemmas.{canonical_map_exists}
 use Rattle.pm_medial.specs.Medial.{IsMedialMap, IsUnmedialOf}
 use Rattle.pm_medial.proofs.OneMedial.{one_medial}
@@ -26,6 +26,9 @@ use Rattle.pm_mapfile.specs.MapText.{IsMapText}
 use Rattle.pm_mapfile.proofs.CanonicalTexts.{canonical_has_text}
 use Rattle.pm_class.specs.Sampling.{HasOneAnswer, HasSomeAnswer}
 use Rattle.pm_trees.specs.Blossoming.{IsBlossoming}
+use Rattle.pm_reach.specs.Layers.{Layers as MapLayers, AreLayers}
+use Rattle.pm_reach.proofs.OneLayers.{one_layers}
+use Rattle.pm_reach.proofs.SomeLayers.{each_map_has_layers}
 use Rattle.pm_open.proofs.KeptByOpening.{opened_degrees, opened_dart}
 use Rattle.pm_open.proofs.SomeOpening.{each_map_opens}
 use Rattle.pm_open.proofs.UniqueOpening.{one_opening}
@@ -33,11 +36,11 @@ use Rattle.pm_euler.proofs.QuarticMaps.{quartic_of_degrees}
 use Rattle.pm_general.proofs.DualsOfMaps.{dual_map, dual_map_is}
 use Rattle.pm_general.proofs.GeneralClass.{medial_map, medial_map_is}
 use Rattle.pm_cli.specs.declared.command.MapTask.{MapTask}
-use Rattle.pm_cli.specs.declared.command.MapTask.TheVariants.{Canon, Medial, Unmedial, Dual}
+use Rattle.pm_cli.specs.declared.command.MapTask.TheVariants.{Canon, Medial, Unmedial, Dual, Layers}
 use Rattle.pm_cli.specs.declared.command.Verb.{Verb}
 use Rattle.pm_cli.specs.declared.command.Verb.TheVariants as verb
 use Rattle.pm_cli.specs.Commands.{verb_word}
-use Rattle.pm_cli.specs.MapAnswers.{MapRelation, HasCanonicalText, HasTextOf, HasNoDart, empty, HasOtherDegrees, no_dart, other_degree, task_relation, PrintsImage, counts_line, counting, HasOpenText, opening}
+use Rattle.pm_cli.specs.MapAnswers.{MapRelation, HasCanonicalText, HasTextOf, HasNoDart, empty, HasOtherDegrees, no_dart, other_degree, task_relation, PrintsImage, counts_line, counting, HasOpenText, opening, layers_lines}
 use Rattle.pm_cli.specs.TreeFile.{IsTreeLine}
 use Rattle.pm_cli.proofs.MapRelations.{same_why, value_or_why, IsMapRelation}
 use Rattle.pm_cli.proofs.OneText.{one_text}
@@ -48,7 +51,7 @@ abbrev verbs : List (List ℕ × Verb)
 verbs =
     (codes "close", verb.Close) ∷ (codes "open", verb.Open) ∷ (codes "check", verb.Check) ∷ (codes "sample", verb.Sample) ∷ (codes "unsample", verb.Unsample) ∷ (codes "draw", verb.Draw)
     ∷ (codes "trip", verb.Trip)
-    ∷ (codes "canon", verb.OfMap Canon) ∷ (codes "medial", verb.OfMap Medial) ∷ (codes "unmedial", verb.OfMap Unmedial) ∷ (codes "dual", verb.OfMap Dual) ∷ []
+    ∷ (codes "canon", verb.OfMap Canon) ∷ (codes "medial", verb.OfMap Medial) ∷ (codes "unmedial", verb.OfMap Unmedial) ∷ (codes "dual", verb.OfMap Dual) ∷ (codes "layers", verb.OfMap Layers) ∷ []
 
 verb_found : (v : Verb) → looked_up verbs (verb_word v) ≡ Some v
 verb_found verb.Close = refl
@@ -62,6 +65,7 @@ verb_found (verb.OfMap Canon) = refl
 verb_found (verb.OfMap Medial) = refl
 verb_found (verb.OfMap Unmedial) = refl
 verb_found (verb.OfMap Dual) = refl
+verb_found (verb.OfMap Layers) = refl
 
 pub one_verb : (a b : Verb) → verb_word a ≡ verb_word b → a ≡ b
 one_verb = one_value verbs verb_word verb_found
@@ -177,11 +181,39 @@ unmedial_image = record {
       let unmedial = each_quartic_has_unmedial m (length m.sigma / 2 / 2) rooted quartic in
       told unmedial.0 unmedial.1.rooted (some, unmedial.1)
 
+-- a map has one text of its layers
+layers_laws : IsMapRelation (task_relation Layers)
+layers_laws = record {
+  few = omega arith;
+  one_text = λ m a b rooted x y.
+      let same : x.canonical ≡ y.canonical = canonical_map_is_unique m x.canonical y.canonical rooted x.is_canonical y.is_canonical in
+      let also : IsRootedMap y.canonical = canonical_map_is_rooted m y.canonical rooted y.is_canonical in
+      let layers : x.layers ≡ y.layers = one_layers y.canonical x.layers y.layers also (subst (λ (k : RotationSystem). AreLayers k x.layers) same x.are_layers) y.are_layers in
+      let map_text : x.map_text ≡ y.map_text = one_text y.canonical x.map_text y.map_text (subst (λ (k : RotationSystem). IsMapText k x.map_text) same x.is_map_text) y.is_map_text in
+      x.whole ∙ ap (λ (l : MapLayers). x.map_text ++ layers_lines l) layers ∙ ap (λ (t : List ℕ). t ++ layers_lines y.layers) map_text ∙ sym y.whole;
+  not_both = λ m text why rooted x y no_memory. y;
+  one_why = λ m v w rooted x y no_memory none. absurd x;
+  some = λ m rooted few told refused.
+      let canonical = canonical_map_exists m rooted in
+      let text = canonical_has_text canonical.0 canonical.1.is_canonical in
+      let layers = each_map_has_layers canonical.0 (canonical_map_is_rooted m canonical.0 rooted canonical.1) in
+      told _ (record {
+        canonical = canonical.0;
+        is_canonical = canonical.1;
+        layers = layers.0;
+        are_layers = layers.1;
+        map_text = text.0;
+        is_map_text = text.1;
+        whole = refl;
+      });
+}
+
 pub task_laws : (task : MapTask) → IsMapRelation (task_relation task)
 task_laws Canon = printing_laws _ _ MAX_EDGES (omega arith) canon_image
 task_laws Medial = printing_laws _ _ (MAX_EDGES / 2) (omega arith) medial_image
 task_laws Unmedial = printing_laws _ _ MAX_EDGES (omega arith) unmedial_image
 task_laws Dual = printing_laws _ _ MAX_EDGES (omega arith) dual_image
+task_laws Layers = layers_laws
 
 -- the text of a canonical map
 pub record IsPrinted (text : List ℕ) : Type 0 where
@@ -204,6 +236,7 @@ printed_image Canon is m text h = printed_text h.other text h.rooted h.is_text
 printed_image Medial is m text h = printed_text h.other text h.rooted h.is_text
 printed_image Unmedial is m text h = printed_text h.other text h.rooted h.is_text
 printed_image Dual is m text h = printed_text h.other text h.rooted h.is_text
+printed_image Layers is m text h = absurd is
 
 -- a blossoming tree has a letter, since its root node has an even degree
 some_letters : (word : List ℕ) → IsBlossoming word → 0 < length word

@@ -5,7 +5,7 @@ use Rattle.pm_cli.specs.declared.command.Command.{Command}
 use Rattle.pm_cli.specs.declared.command.Command.TheVariants.{Reads, Makes}
 use Rattle.pm_cli.specs.declared.command.Reader.{Reader}
 use Rattle.pm_cli.specs.declared.command.Reader.TheVariants.{CloseEulerian, OpenEulerian, OfMap, Check, Unsample, Sample}
-use Rattle.pm_cli.specs.declared.command.MapTask.TheVariants.{Canon, Medial, Unmedial, Dual}
+use Rattle.pm_cli.specs.declared.command.MapTask.TheVariants.{Canon, Medial, Unmedial, Dual, Layers}
 use Rattle.pm_cli.specs.declared.command.Maker.{Maker}
 use Rattle.pm_cli.specs.declared.command.Maker.TheVariants.{Draw, Trip}
 use Rattle.pm_cli.specs.declared.words.TheConstants.{MAX_RECORDS}
@@ -20,6 +20,7 @@ verb_word (verb.OfMap Canon) = codes "canon"
 verb_word (verb.OfMap Medial) = codes "medial"
 verb_word (verb.OfMap Unmedial) = codes "unmedial"
 verb_word (verb.OfMap Dual) = codes "dual"
+verb_word (verb.OfMap Layers) = codes "layers"
 verb_word verb.Check = codes "check"
 verb_word verb.Sample = codes "sample"
 verb_word verb.Unsample = codes "unsample"

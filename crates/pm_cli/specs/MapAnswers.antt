@@ -11,14 +11,18 @@ use Rattle.pm_map.specs.declared.class_refusal.ClassRefusal.TheVariants as class
 use Rattle.pm_map.specs.ClassRules.{IsLeastOther}
 use Rattle.pm_map.specs.Plane.{vertices, edges, faces}
 use Rattle.pm_map.specs.Rotation.{RotationSystem, structure_of, IsRootedMap}
+use Rattle.pm_map.specs.Canonical.{IsCanonicalOf}
 use Rattle.pm_map.specs.DualLaws.{IsDualOf}
 use Rattle.pm_medial.specs.Medial.{IsMedialMap, IsUnmedialOf}
 use Rattle.pm_mapfile.specs.Answers.{AnswersFile}
 use Rattle.pm_mapfile.specs.MapFile.{IsMapFile}
 pub use Rattle.pm_mapfile.specs.MapText.{HasCanonicalText}
+use Rattle.pm_mapfile.specs.MapText.{IsMapText}
+use Rattle.pm_lists.specs.ListLine.{list_line}
+use Rattle.pm_reach.specs.Layers.{Layers as MapLayers, AreLayers}
 use Rattle.pm_open.specs.Opening.{IsOpening}
 use Rattle.pm_cli.specs.declared.command.MapTask.{MapTask}
-use Rattle.pm_cli.specs.declared.command.MapTask.TheVariants.{Canon, Medial, Unmedial, Dual}
+use Rattle.pm_cli.specs.declared.command.MapTask.TheVariants.{Canon, Medial, Unmedial, Dual, Layers}
 use Rattle.pm_cli.specs.declared.refusal.Limit.TheVariants.{Edges}
 use Rattle.pm_cli.specs.declared.refusal.MapRule.TheVariants.{Permutation, Connected, Euler, Empty, Vertex, Face, Loop, Double}
 use Rattle.pm_cli.specs.declared.refusal.Refusal.{Refusal}
@@ -91,6 +95,20 @@ pub data HasOtherDegrees (degrees : Degrees) (map : RotationSystem) : ClassRefus
   no_dart : length map.sigma ≡ 0 → HasOtherDegrees degrees map class.Empty
   other_degree : (dart : ℕ) → IsLeastOther (structure_of map) degrees dart → HasOtherDegrees degrees map (class.Vertex dart)
 
+-- a line of the distances of the faces, and one of their parents
+abbrev pub layers_lines : MapLayers → List ℕ
+layers_lines layers = (list_line (codes "layers") layers.distances ++ newline ∷ []) ++ (list_line (codes "parents") layers.parents ++ newline ∷ [])
+
+-- the text of the canonical map, and these lines of its layers
+pub record HasLayersText (map : RotationSystem) (text : List ℕ) : Type 0 where
+  pub canonical : RotationSystem
+  pub is_canonical : IsCanonicalOf map canonical
+  pub layers : MapLayers
+  pub are_layers : AreLayers canonical layers
+  pub map_text : List ℕ
+  pub is_map_text : IsMapText canonical map_text
+  pub whole : text ≡ map_text ++ layers_lines layers
+
 -- what is printed for a map; a medial map has twice as many edges
 abbrev pub task_relation : MapTask → MapRelation
 task_relation Canon = record { limit = MAX_EDGES; text_of = HasTextOf (λ map other. other ≡ map); refuses = λ map why. ⊥ }
@@ -101,6 +119,7 @@ task_relation Unmedial = record {
   refuses = HasOtherDegrees (Exactly 4);
 }
 task_relation Dual = record { limit = MAX_EDGES; text_of = HasTextOf IsDualOf; refuses = λ map why. ⊥ }
+task_relation Layers = record { limit = MAX_EDGES; text_of = HasLayersText; refuses = λ map why. ⊥ }
 
 -- the tasks that print the text of a map, and nothing else
 abbrev pub PrintsImage : MapTask → Type 0
@@ -108,6 +127,7 @@ PrintsImage Canon = ⊤
 PrintsImage Medial = ⊤
 PrintsImage Unmedial = ⊤
 PrintsImage Dual = ⊤
+PrintsImage Layers = ⊥
 
 -- `ok V E F`: how many vertices, edges and faces the map has
 abbrev pub counts_line : RotationSystem → List ℕ

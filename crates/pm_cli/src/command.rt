@@ -42,6 +42,9 @@ pub enum MapTask {
     Unmedial,
     /// `dual`: that of its dual.
     Dual,
+    /// `layers`: the canonical map of the map, and for each of its darts how far its face is from the root's face, and the
+    /// parent of its face.
+    Layers,
 }
 
 /// What is done with a size.
@@ -79,6 +82,7 @@ impl Verb {
             "medial" => Some(Verb::OfMap(MapTask::Medial)),
             "unmedial" => Some(Verb::OfMap(MapTask::Unmedial)),
             "dual" => Some(Verb::OfMap(MapTask::Dual)),
+            "layers" => Some(Verb::OfMap(MapTask::Layers)),
             "check" => Some(Verb::Check),
             "sample" => Some(Verb::Sample),
             "unsample" => Some(Verb::Unsample),

@@ -124,6 +124,11 @@ dual|map 1 0/v 0/v 1/end/|0|map 1 0/v 0 1/end/
 dual|map 1 0/v 0 1/end/residue 9/|0|map 1 0/v 0/v 1/end/
 dual|map 0 0/end/|0|map 0 0/end/
 dual x||2|usage 1
+layers|map 4 7/v 7 0 2 6/v 1 3 5 4/end/residue 1/|0|map 4 0/v 0 2 4 1/v 3 5 6 7/end/layers 0 1 1 2 2 1 2 3/parents 0 1 1 3 3 1 3 7/
+layers|map 1 0/v 0/v 1/end/|0|map 1 0/v 0/v 1/end/layers 0 0/parents 0 0/
+layers|map 0 0/end/|0|map 0 0/end/layers/parents/
+layers|map 1 1/v 0/v 1/end/x/|3|text 5
+layers x||2|usage 1
 ";
 
 const CHECK: &str = "\

@@ -51,9 +51,9 @@ settles P n grows = elim (settled_before P n grows (suc n)) [
 ]
 
 -- the least number that passes
-record IsLeastPassing (P : ℕ → Bool) (k : ℕ) : Type 0 where
-  passes : P k ≡ true
-  least : (j : ℕ) → P j ≡ true → k ≤ j
+pub record IsLeastPassing (P : ℕ → Bool) (k : ℕ) : Type 0 where
+  pub passes : P k ≡ true
+  pub least : (j : ℕ) → P j ≡ true → k ≤ j
 
 least_or_none : (P : ℕ → Bool) (bound : ℕ) → ((k : ℕ) × IsLeastPassing P k) ⊎ ((k : ℕ) → k < bound → P k ≡ true → ⊥)
 least_or_none P zero = inr (λ k h passes. (let none : k < 0 = h in omega arith))
@@ -74,7 +74,7 @@ least_or_none P (suc bound) = elim (least_or_none P bound) [
   ]
 ]
 
-least_passing : (P : ℕ → Bool) (k : ℕ) → P k ≡ true → (j : ℕ) × IsLeastPassing P j
+pub least_passing : (P : ℕ → Bool) (k : ℕ) → P k ≡ true → (j : ℕ) × IsLeastPassing P j
 least_passing P k passes = elim (least_or_none P (suc k)) [ inl found ↦ found | inr none ↦ absurd (none k (omega arith) passes) ]
 
 -- the least dart of a face

@@ -1,3 +1,4 @@
-mod NearerFaces
-mod OneLayers
+pub mod NearerFaces
+pub mod OneLayers
+pub mod SomeLayers
 mod ToldFaces

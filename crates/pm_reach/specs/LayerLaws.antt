@@ -7,6 +7,10 @@ use Rattle.pm_close.specs.declared.closing.Closed.{Closed}
 use Rattle.pm_close.specs.Closing.{ClosesTo}
 use Rattle.pm_reach.specs.Layers.{Layers, AreLayers}
 
+-- a rooted map has layers
+abbrev pub EachMapHasLayers : Type 0
+EachMapHasLayers = (map : RotationSystem) → IsRootedMap map → (layers : Layers) × AreLayers map layers
+
 -- a rooted map has no two pairs of lists as its layers
 abbrev pub MapHasOneLayers : Type 0
 MapHasOneLayers = (map : RotationSystem) (one other : Layers) → IsRootedMap map → AreLayers map one → AreLayers map other → one ≡ other

@@ -1,9 +1,10 @@
 //! Laws of layers.
-ghost use Rattle.pm_reach.specs.LayerLaws.{ClosedLevelsAreLayers, MapHasOneLayers};
+ghost use Rattle.pm_reach.specs.LayerLaws.{ClosedLevelsAreLayers, EachMapHasLayers, MapHasOneLayers};
 
-/// A law: a rooted map has one pair of lists as its layers.
+/// A law: each rooted map has one pair of lists as its layers, and no other.
 pub fn map_has_one_layers()
-    ensures { MapHasOneLayers }
+    ensures exists { EachMapHasLayers }
+    ensures one { MapHasOneLayers }
 {}
 
 /// A law: in the closure of a balanced tree the distances are the levels that closing gives.
