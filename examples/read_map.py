@@ -11,4 +11,5 @@ for dart in after:
     while dart not in met:
         met.add(dart)
         dart = after[dart ^ 1]
-print(len(vertices), edges, faces)
+# The map without edges has one vertex and one face, and no dart tells of them.
+print(len(vertices) or 1, edges, faces or 1)

@@ -60,11 +60,11 @@ pub fn close_tree(alloc: Global, tree: &Tree) -> Result<Closed, CloseRefusal>
     Ok(close_paired(alloc, tree, &across, &pairing)?)
 }
 
-/// The closure of a balanced tree without its levels, in one pass along its letters.
+/// The closure of a balanced tree without its levels, in one pass along its letters, after one that finds the plant's bud.
 ///
 /// # Errors
 ///
-/// `NotBalanced` exactly where the plant is in a pair, with the bud of that pair.
+/// `NotBalanced` exactly where the plant is in a pair, with the bud of that pair, or `Memory`, which may come at any tree.
 pub fn close_map(alloc: Global, tree: &Tree) -> Result<RootedMap, CloseRefusal>
     ensures { IsMapClosing tree.now result }
 {

@@ -43,7 +43,7 @@ pub(crate) fn put(counts: &mut [u32], number: usize, many: u32) -> usize
     smaller
 }
 
-/// Takes the number out that has `rank` smaller ones before it, and gives it, and how many of its own are before it.
+/// Takes one copy out of the number at this rank: gives the number, and how many of its copies come before that one.
 pub(crate) fn take(counts: &mut [u32], rank: usize) -> (usize, usize)
     requires power { IsPowerOfTwo (length counts.old) }
     requires few { length counts.old ≤ 2 ^ 32 }

@@ -50,7 +50,7 @@ pub fn unmedial(alloc: Global, map: &RootedMap) -> Result<RootedMap, UnmedialRef
     Ok(unmedial_of_quartic(alloc, map)?)
 }
 
-/// The same for a map whose vertices are known to have degree 4, which aren't tested.
+/// An unmedial of a map with a dart whose vertices are known to have degree 4: the degrees aren't tested.
 ///
 /// # Errors
 ///

@@ -49,7 +49,8 @@ pub fn open_map(alloc: Global, map: &RootedMap) -> Result<Tree, OpenRefusal>
     Ok(open_even(alloc, map)?)
 }
 
-/// The same for a map that is known to have even degrees within `MAX_DEGREE`, which aren't tested.
+/// The opening of a map with a dart whose vertices are known to have even degrees within `MAX_DEGREE`: the degrees aren't
+/// tested.
 ///
 /// # Errors
 ///
