@@ -1,4 +1,6 @@
+mod ListWalk
 pub mod NearerFaces
 pub mod OneLayers
+mod Products
 pub mod SomeLayers
 mod ToldFaces

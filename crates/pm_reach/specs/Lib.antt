@@ -1,3 +1,4 @@
+pub mod Census
 pub mod LayerLaws
 pub mod Layers
 pub mod steps

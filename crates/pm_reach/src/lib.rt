@@ -1,11 +1,13 @@
-//! The layers of the faces of a map, by their distances from the root's face.
+//! The layers of the faces of a map, by their distances from the root's face; and the maps of a small class.
 #![tactic(auto)]
 
 mod laws;
 mod layering;
+mod lists;
 
 pub use laws::{closed_levels_are_layers, map_has_one_layers};
 pub use layering::{FaceLayers, layers};
+pub use lists::MOST_LISTS;
 
 #[cfg(test)]
 mod tests;
