@@ -1,3 +1,5 @@
+mod CountedLists
+mod CountedMaps
 mod ListWalk
 pub mod NearerFaces
 pub mod OneLayers

@@ -1,10 +1,13 @@
 //! The layers of the faces of a map, by their distances from the root's face; and the maps of a small class.
 #![tactic(auto)]
 
+mod counting;
 mod laws;
 mod layering;
 mod lists;
+mod map_key;
 
+pub use counting::{CensusList, CensusRefusal, census};
 pub use laws::{closed_levels_are_layers, map_has_one_layers};
 pub use layering::{FaceLayers, layers};
 pub use lists::MOST_LISTS;

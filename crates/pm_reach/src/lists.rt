@@ -1,5 +1,5 @@
 //! The valid lists of bounds, one after another in dictionary order.
-ghost use Rattle.std.specs.Prelude.{◌≡◌, ◌<◌, ◌≤◌, false, true, length, IfSome, IfNone};
+ghost use Rattle.std.specs.Prelude.{◌≡◌, ◌<◌, ◌≤◌, false, true, length};
 ghost use Rattle.pm_lists.specs.Valid.{AreBounds, IsValidList};
 ghost use Rattle.pm_reach.specs.Census.{IsLastList, IsNextList, product};
 
@@ -9,22 +9,21 @@ pub const MOST_LISTS: u64 = 1_000_000;
 // The number itself: with another one this crate isn't proved.
 const _: () = prove!(MOST_LISTS == 1_000_000);
 
-/// The number of valid lists, which is the product of the bounds, or `None` exactly where it is above [`MOST_LISTS`]. The
-/// product is taken only until it passes that.
-pub(crate) fn list_count(bounds: &[u64]) -> Option<u64>
+/// Whether the product of the bounds, which is the number of valid lists, is at most [`MOST_LISTS`]. It is taken only until
+/// it passes that.
+pub(crate) fn has_few_lists(bounds: &[u64]) -> bool
     requires { AreBounds bounds.now }
-    ensures count { IfSome result (λ count. count ≡ product bounds.now) }
-    ensures few { IfSome result (λ count. count ≤ MOST_LISTS) }
-    ensures none { IfNone result (MOST_LISTS < product bounds.now) }
+    ensures few { result ≡ true → product bounds.now ≤ MOST_LISTS }
+    ensures many { result ≡ false → MOST_LISTS < product bounds.now }
 {
     let mut count: u64 = 1;
     for bound in bounds {
         count = count.saturating_mul(*bound);
         if count > MOST_LISTS {
-            return None;
+            return false;
         }
     }
-    Some(count)
+    true
 }
 
 /// Makes a valid list the next one in dictionary order, whose first entry weighs most. `false` where it was the last; it is

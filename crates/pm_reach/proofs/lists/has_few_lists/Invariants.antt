@@ -1,6 +1,6 @@
 use Rattle.std.proofs.Common.{◌≤◌}
 use Rattle.pm_reach.specs.steps.Walking.{IsMultiplied}
-use Rattle.pm_reach.proofs.lists.list_count.Given as goal
+use Rattle.pm_reach.proofs.lists.has_few_lists.Given as goal
 
 abbrev pub invariant-loop-bound : goal.invariant-loop-bound
 invariant-loop-bound l = record { few : l.count ≤ 1000000; multiplied : IsMultiplied l.bounds l.bound-index l.count }
