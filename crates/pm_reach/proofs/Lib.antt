@@ -2,7 +2,10 @@ mod CountedLists
 mod CountedMaps
 mod ListWalk
 pub mod NearerFaces
+mod OneCensus
 pub mod OneLayers
 mod Products
+mod SameMap
 pub mod SomeLayers
+mod StandingMaps
 mod ToldFaces

@@ -1,4 +1,5 @@
 pub mod Census
+pub mod CensusLaws
 pub mod LayerLaws
 pub mod Layers
 pub mod steps

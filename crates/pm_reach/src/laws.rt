@@ -1,5 +1,8 @@
-//! Laws of layers.
+//! Laws of layers and of a census.
+ghost use Rattle.pm_reach.specs.CensusLaws.{CensusHasEachMapOnce, ClassHasOneCensus};
 ghost use Rattle.pm_reach.specs.LayerLaws.{ClosedLevelsAreLayers, EachMapHasLayers, MapHasOneLayers};
+
+use pm_class::MapClass;
 
 /// A law: each rooted map has one pair of lists as its layers, and no other.
 pub fn map_has_one_layers()
@@ -11,3 +14,17 @@ pub fn map_has_one_layers()
 pub fn closed_levels_are_layers()
     ensures { ClosedLevelsAreLayers }
 {}
+
+/// A law of every class: a class and an admissible size have one census.
+pub fn class_has_one_census<C: MapClass>()
+    ensures { ClassHasOneCensus C.is_size C.choice_limits C.samples }
+{
+    C::is_one_to_one();
+}
+
+/// A law of every class: a census has each canonical map of the class and size in one entry, and no other map.
+pub fn census_has_each_map_once<C: MapClass>()
+    ensures { CensusHasEachMapOnce C.is_size C.choice_limits C.has C.samples }
+{
+    C::is_one_to_one();
+}

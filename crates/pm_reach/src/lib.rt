@@ -8,7 +8,9 @@ mod lists;
 mod map_key;
 
 pub use counting::{CensusList, CensusRefusal, census};
-pub use laws::{closed_levels_are_layers, map_has_one_layers};
+pub use laws::{
+    census_has_each_map_once, class_has_one_census, closed_levels_are_layers, map_has_one_layers,
+};
 pub use layering::{FaceLayers, layers};
 pub use lists::MOST_LISTS;
 
