@@ -1,5 +1,7 @@
 mod CountedLists
 mod CountedMaps
+mod CountedResidues
+mod Distinct
 mod ListWalk
 pub mod NearerFaces
 mod OneCensus

@@ -11,20 +11,20 @@ use Rattle.pm_reach.specs.CensusLaws.{AreApart, HasEachMapOnce, Stands}
 use Rattle.pm_reach.proofs.SameMap.{is_same_map-refl, is_same_map-same}
 
 -- it is one of these
-abbrev IsOneOf : {X : Type 0} → X → List X → Type 0
+abbrev pub IsOneOf : {X : Type 0} → X → List X → Type 0
 IsOneOf x [] = ⊥
 IsOneOf x (y ∷ ys) = (x ≡ y) ⊎ IsOneOf x ys
 
-one_of-left : {X : Type 0} (x : X) (xs ys : List X) → IsOneOf x xs → IsOneOf x (xs ++ ys)
+pub one_of-left : {X : Type 0} (x : X) (xs ys : List X) → IsOneOf x xs → IsOneOf x (xs ++ ys)
 one_of-left x [] ys h = absurd h
 one_of-left x (y ∷ xs) ys (inl h) = inl h
 one_of-left x (y ∷ xs) ys (inr h) = inr (one_of-left x xs ys h)
 
-one_of-right : {X : Type 0} (x : X) (xs ys : List X) → IsOneOf x ys → IsOneOf x (xs ++ ys)
+pub one_of-right : {X : Type 0} (x : X) (xs ys : List X) → IsOneOf x ys → IsOneOf x (xs ++ ys)
 one_of-right x [] ys h = h
 one_of-right x (y ∷ xs) ys h = inr (one_of-right x xs ys h)
 
-one_of-map : (first : ℕ) (rest : List ℕ) (rests : List (List ℕ)) → IsOneOf rest rests → IsOneOf (first ∷ rest) (map (λ rest. first ∷ rest) rests)
+pub one_of-map : (first : ℕ) (rest : List ℕ) (rests : List (List ℕ)) → IsOneOf rest rests → IsOneOf (first ∷ rest) (map (λ rest. first ∷ rest) rests)
 one_of-map first rest [] h = absurd h
 one_of-map first rest (other ∷ rests) (inl h) = inl (ap (λ list. first ∷ list) h)
 one_of-map first rest (other ∷ rests) (inr h) = inr (one_of-map first rest rests h)

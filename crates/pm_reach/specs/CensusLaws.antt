@@ -2,7 +2,7 @@
 use Rattle.std.specs.Prelude.{◌≡◌, ◌⊎◌, ℕ, List, [], ◌∷◌, ⊤}
 use Rattle.pm_map.specs.Rotation.{RotationSystem}
 use Rattle.pm_class.specs.OneToOne.{IsMember}
-use Rattle.pm_reach.specs.Census.{IsCensus}
+use Rattle.pm_reach.specs.Census.{IsCensus, number_of, product}
 
 -- a law: a class and a size have one census
 abbrev pub ClassHasOneCensus : {Size : Type 0} → (Size → Type 0) → (Size → List ℕ) → (Size → List ℕ → RotationSystem → List ℕ → Type 0) → Type 0
@@ -30,3 +30,9 @@ pub record HasEachMapOnce (has : RotationSystem → Type 0) (entries : List (Rot
 abbrev pub CensusHasEachMapOnce : {Size : Type 0} → (Size → Type 0) → (Size → List ℕ) → (Size → RotationSystem → Type 0) → (Size → List ℕ → RotationSystem → List ℕ → Type 0) → Type 0
 CensusHasEachMapOnce {Size} is_size choice_limits has samples =
     (size : Size) (entries : List (RotationSystem × ℕ)) → is_size size → IsCensus (choice_limits size) (samples size) entries → HasEachMapOnce (has size) entries
+
+-- a law: the number of each canonical map of the class and size is the product of the residue bounds
+abbrev pub CensusCountsResidues : {Size : Type 0} → (Size → Type 0) → (Size → List ℕ) → (Size → List ℕ) → (Size → RotationSystem → Type 0) → (Size → List ℕ → RotationSystem → List ℕ → Type 0) → Type 0
+CensusCountsResidues {Size} is_size choice_limits residue_limits has samples =
+    (size : Size) (entries : List (RotationSystem × ℕ)) (map : RotationSystem) → is_size size → IsCensus (choice_limits size) (samples size) entries
+    → IsMember (has size) map → number_of map entries ≡ product (residue_limits size)

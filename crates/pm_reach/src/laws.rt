@@ -1,5 +1,5 @@
 //! Laws of layers and of a census.
-ghost use Rattle.pm_reach.specs.CensusLaws.{CensusHasEachMapOnce, ClassHasOneCensus};
+ghost use Rattle.pm_reach.specs.CensusLaws.{CensusCountsResidues, CensusHasEachMapOnce, ClassHasOneCensus};
 ghost use Rattle.pm_reach.specs.LayerLaws.{ClosedLevelsAreLayers, EachMapHasLayers, MapHasOneLayers};
 
 use pm_class::MapClass;
@@ -25,6 +25,14 @@ pub fn class_has_one_census<C: MapClass>()
 /// A law of every class: a census has each canonical map of the class and size in one entry, and no other map.
 pub fn census_has_each_map_once<C: MapClass>()
     ensures { CensusHasEachMapOnce C.is_size C.choice_limits C.has C.samples }
+{
+    C::is_one_to_one();
+}
+
+/// A law of every class: in a census the number of each canonical map of the class and size is the product of the residue
+/// bounds.
+pub fn census_counts_residues<C: MapClass>()
+    ensures { CensusCountsResidues C.is_size C.choice_limits C.residue_limits C.has C.samples }
 {
     C::is_one_to_one();
 }
