@@ -15,6 +15,10 @@ least_none Bad Looked h = record { sound = λ p e. absurd (cc); least = λ k l b
 pub least_fewer : (Bad Looked Less : ℕ → Type 0) (found : Option ℕ) → ((k : ℕ) → Less k → Looked k) → IsLeastOf Bad Looked found → IsLeastOf Bad Less found
 least_fewer Bad Looked Less found h r = record { sound = r.sound; least = λ k l b. r.least k (h k l) b }
 
+-- another property that is the same one at the places that were looked at
+pub least_alike : (Bad Other Looked Still : ℕ → Type 0) (found : Option ℕ) → ((k : ℕ) → Bad k → Other k) → ((k : ℕ) → Still k → Looked k) → ((k : ℕ) → Still k → Other k → Bad k) → IsLeastOf Bad Looked found → IsLeastOf Other Still found
+least_alike Bad Other Looked Still found to fewer back r = record { sound = λ p e. to p (r.sound p e); least = λ k l b. r.least k (fewer k l) (back k l b) }
+
 lesser_is : (found : Option ℕ) (x : ℕ) → (p : ℕ) × (lesser found (Some x) ≡ Some p) × (p ≤ x) × (((found ≡ Some p) ⊎ (p ≡ x)) × ((q : ℕ) → found ≡ Some q → p ≤ q))
 lesser_is None x = (x, refl, omega arith, (inr refl, λ q e. absurd (cc)))
 lesser_is (Some y) x = (

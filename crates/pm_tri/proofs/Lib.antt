@@ -1,0 +1,4 @@
+pub mod OpenBrackets
+pub mod StemLetters
+pub mod Unique
+mod Walk
