@@ -1,3 +1,4 @@
+pub mod NodeTurns
 pub mod OpenBrackets
 pub mod StemLetters
 pub mod Unique
