@@ -1,5 +1,6 @@
 pub mod NodeTurns
 pub mod OpenBrackets
+pub mod Replants
 pub mod StemLetters
 pub mod Unique
 mod Walk

@@ -91,7 +91,7 @@ after_pair word (suc p) q m b =
     node_from_stretch word (node_at (contour word) (suc p)) q m (at_is_node word (suc p) m)
     (record { before = omega (arith, l, k); even = even_pair (contour word) (node_at (contour word) (suc p)) (suc p) q l k b.opens b.closes a.even (even_from_pair (contour word) (suc p) q b) })
 
-before_closer : (word : List ℕ) (s q : ℕ) → IsMatched word → IsBracketPair (contour word) s q → node_at (contour word) q ≡ s
+pub before_closer : (word : List ℕ) (s q : ℕ) → IsMatched word → IsBracketPair (contour word) s q → node_at (contour word) q ≡ s
 before_closer word s zero m b = absurd (let l = b.before in omega arith)
 before_closer word s (suc q) m b = node_from_stretch word s q m (inr b.opens) (record { before = b.before; even = even_from_pair (contour word) s (suc q) b })
 
