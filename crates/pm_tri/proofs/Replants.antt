@@ -1,16 +1,23 @@
 -- Stem trees that are planted at another of their stems: turns go along with the ring, so nodes and their stems stay.
-use Rattle.std.proofs.Common.{◌≡◌, ℕ, suc, ◌+◌, ◌-◌, ◌%◌, ◌≤◌, ◌<◌, ◌==◌, ◌&&◌, inl, inr, Bool, true, false, List, length, slice_index, refl, ap, ◌∙◌, sym, subst, arith, eqb-true, eq-eqb}
+use Rattle.std.proofs.Common.{◌≡◌, ℕ, suc, ◌+◌, ◌-◌, ◌%◌, ◌≤◌, ◌<◌, ◌==◌, ◌&&◌, inl, inr, Bool, true, false, List, length, slice_index, refl, ap, ◌∙◌, sym, subst, arith, eqb-true, eq-eqb, zero, [], ◌∷◌, All, IsTrue}
 use Rattle.std.proofs.lemmas.Bool.{false≢true}
 use Rattle.std.proofs.Math.Nat.{add-mod-mod, mod-add-mod}
 use Rattle.pm_perm.specs.Count.{count_below}
 use Rattle.pm_perm.proofs.Counts.{count_below-image, count_below-le}
-use Rattle.pm_brackets.specs.declared.letters.TheConstants.{CLOSE}
+use Rattle.pm_brackets.specs.declared.letters.TheConstants.{CLOSE, OPEN}
 use Rattle.pm_brackets.specs.Ring.{IsTurned, place_from}
-use Rattle.pm_brackets.specs.Word.{IsBracketing, IsMatched, IsOther}
+use Rattle.pm_brackets.specs.Word.{IsBracketing, IsLetterAt, IsMatched, IsOther, is_letter_of}
 use Rattle.pm_brackets.proofs.Levels.{inside}
 use Rattle.pm_brackets.proofs.RingPlaces.{brackets_back, letter_back, mod_under, no_other, one_other, other_of, steps_are, steps_to, steps_to_is, steps_under, turned_back}
+use Rattle.pm_brackets.proofs.Bracketed.{bracketing_exists}
+use Rattle.pm_brackets.proofs.LetterTurns.{letter_within}
+use Rattle.pm_brackets.proofs.Replants.{numbers_turned, planted_count, planted_exists, planted_matched, planted_unique, planting_undone, same_rings}
+use Rattle.pm_brackets.proofs.Rings.{letters_stay, ring_turned}
+use Rattle.pm_brackets.proofs.Tally.{tally_is, tally_no}
+use Rattle.std.proofs.lemmas.List.Elements.{All-tail}
+use Rattle.pm_tri.specs.Replanting.{EachStemIsReplanted, IsAlike, IsReplanted, ReplantedIsAlike, ReplantedIsUnique, ReplantingIsUndone, StemsAreTurned}
 use Rattle.pm_tri.specs.declared.letters.TheConstants.{STEM}
-use Rattle.pm_tri.specs.StemTree.{HasStems, IsNode, contour, is_stem_of, node_at, stems}
+use Rattle.pm_tri.specs.StemTree.{HasStems, IsInOrder, IsNode, IsStemTree, contour, is_stem_of, node_at, stems}
 use Rattle.pm_tri.proofs.NodeTurns.{at_is_node, before_closer, same_at_node, turn_keeps}
 use Rattle.pm_tri.proofs.StemLetters.{stem_is_other}
 
@@ -123,3 +130,60 @@ stems_stay word planted other other' start m m' b b' l t h v n =
     (λ p k e. one_node planted word other' other begin m' m b' b begin_under t' p old k old_under e ∙ ap (node_at (contour planted)) (home word planted other other' start m m' b b' l t r.place within) ∙ r.here) in
     let two = h (node_at (contour word) old) (at_is_node word old m) in
     omega (arith, few, many, two)
+
+pub each_stem : EachStemIsReplanted
+each_stem word stem t l = planted_exists STEM stem_is_other (omega arith) word stem t.in_order.matched l
+
+pub replanted_unique : ReplantedIsUnique
+replanted_unique word stem one other t r s = planted_unique STEM stem_is_other (omega arith) word stem one other t.in_order.matched r s
+
+pub stems_turned : StemsAreTurned
+stems_turned word stem replanted t r number place l h = numbers_turned STEM stem_is_other (omega arith) word stem replanted t.in_order.matched r number place l h
+
+pub replanting_undone : ReplantingIsUndone
+replanting_undone word stem replanted t r = planting_undone STEM stem_is_other (omega arith) word stem replanted t.in_order.matched r
+
+-- the letters stay those of a stem tree
+letters_kept : (word planted : List ℕ) (start : ℕ) → IsInOrder word → start < length (contour word) → IsTurned (contour word) start (contour planted) → All (λ x. IsTrue (is_letter_of (STEM ∷ []) x)) planted
+letters_kept word planted start o l t =
+    let Letters : List ℕ → Type 0 = All (λ x. IsTrue (is_letter_of (STEM ∷ []) x)) in
+    let h = ring_turned Letters (letters_stay (λ x. is_letter_of (STEM ∷ []) x) refl refl) STEM stem_is_other word start o.matched (ring_letters word o) in
+    let same : h.ring ≡ contour planted = same_rings STEM stem_is_other word h.ring (contour planted) start o.matched l h.turned t in
+    All-tail (λ x. IsTrue (is_letter_of (STEM ∷ []) x)) STEM planted (subst Letters same h.holds) where
+      ring_letters : (word : List ℕ) → IsInOrder word → All (λ x. IsTrue (is_letter_of (STEM ∷ []) x)) (contour word)
+      ring_letters word o zero d l = refl
+      ring_letters word o (suc k) d l = o.letters k d (omega arith)
+
+pub replanted_alike : ReplantedIsAlike
+replanted_alike word stem replanted t r =
+    let matched = planted_matched STEM stem_is_other (omega arith) word stem replanted t.in_order.matched r in
+    let within = letter_within STEM (omega arith) (contour word) stem r.start r.is_start in
+    let long = r.is_turned.as_long in
+    let b = bracketing_exists STEM stem_is_other word t.in_order.matched in
+    let b' = bracketing_exists STEM stem_is_other replanted matched in
+    let opens = planted_count STEM stem_is_other (omega arith) word stem replanted OPEN t.in_order.matched r in
+    let old = tally_no OPEN STEM word stem_is_other.not_open in
+    let new = tally_no OPEN STEM replanted stem_is_other.not_open in
+    let c = tally_is OPEN (contour word) in
+    let d = tally_is OPEN (contour replanted) in
+    let e = tally_is OPEN word in
+    let f = tally_is OPEN replanted in
+    record {
+      stem_tree = record {
+        in_order = record { letters = letters_kept word replanted r.start t.in_order within r.is_turned; matched = matched };
+        short = let s = t.short in omega (arith, s, long);
+        stems = stems_stay word replanted b.0 b'.0 r.start t.in_order.matched matched b.1 b'.1 within r.is_turned t.stems;
+      };
+      letters = omega (arith, long);
+      stems_are = planted_count STEM stem_is_other (omega arith) word stem replanted STEM t.in_order.matched r;
+      nodes_are = omega (arith, opens, old, new, c, d, e, f);
+    }
+
+-- the contour read from the stem of a number on
+pub replanted_from : (word text : List ℕ) (stem start : ℕ) (letters : List ℕ) → text ≡ word → IsLetterAt STEM (contour text) stem start → IsTurned (contour text) start (contour letters) → IsReplanted word stem letters
+replanted_from word text stem start letters e h t =
+    let P : List ℕ → Type 0 = λ xs. IsReplanted xs stem letters in
+    subst P e (record { start = start; is_start = h; is_turned = t })
+
+pub alike_from : (word text : List ℕ) (stem start : ℕ) (letters : List ℕ) → text ≡ word → IsStemTree word → IsLetterAt STEM (contour text) stem start → IsTurned (contour text) start (contour letters) → IsAlike word letters
+alike_from word text stem start letters e s h t = replanted_alike word stem letters s (replanted_from word text stem start letters e h t)

@@ -5,11 +5,13 @@ mod laws;
 mod letters;
 mod nodes;
 mod read;
+mod replanting;
 mod tree;
 
-pub use laws::tri_answer_is_unique;
+pub use laws::{stem_trees_are_replanted, tri_answer_is_unique};
 pub use letters::STEM;
 pub use read::read_tri_tree;
+pub use replanting::tri_replant;
 pub use tree::{TriTree, TriTreeRefusal};
 
 #[cfg(test)]

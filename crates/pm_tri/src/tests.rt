@@ -66,3 +66,22 @@ fn reads_trees(rt: HostRuntime) -> Result<(), Fail> {
     }
     Ok(())
 }
+
+#[test]
+fn replants(rt: HostRuntime) -> Result<(), Fail> {
+    for (word, stem, planted) in [
+        (b"s".as_slice(), 0, b"s".as_slice()),
+        (b"s", 1, b"s"),
+        (b"(ss)s", 1, b"s(ss)"),
+        (b"(ss)s", 3, b"s(ss)"),
+        (b"(ss(ss))s", 2, b"(ss)(ss)s"),
+        (b"(ss(ss))s", 3, b"s((ss)ss)"),
+        (b"(ss(ss))s", 5, b"s(ss(ss))"),
+    ] {
+        assert!(rt; word.len() < 100);
+        let tree = read_tri_tree(rt.alloc(), word)?;
+        assert!(rt; stem < tree.stems());
+        assert_eq!(rt; tri_replant(rt.alloc(), &tree, stem)?.letters(), planted);
+    }
+    Ok(())
+}
