@@ -31,7 +31,7 @@ at_open : (xs : List ℕ) (p k : ℕ) → ((j : ℕ) → slice_index xs j ≤ p 
 at_open xs p zero h = omega arith
 at_open xs p (suc k) h = let a = h k in omega (arith, a)
 
-open_is_before : (places : List ℕ) (p k : ℕ) → slice_index (open_before places p) k ≤ p - 1
+pub open_is_before : (places : List ℕ) (p k : ℕ) → slice_index (open_before places p) k ≤ p - 1
 open_is_before places zero k = omega arith
 open_is_before places (suc p) k =
     elim (cases_eq (slice_index places p) OPEN) [
@@ -79,7 +79,7 @@ no_stem places node p s =
     let b = stem_step places node p in
     omega (arith, a, b)
 
-not_stem_of : (places : List ℕ) (node p : ℕ) → (node_at places p ≡ node → ⊥) → is_stem_of places node p ≡ false
+pub not_stem_of : (places : List ℕ) (node p : ℕ) → (node_at places p ≡ node → ⊥) → is_stem_of places node p ≡ false
 not_stem_of places node p n = rw (ne_eqb (node_at places p) node n) (and_false (slice_index places p == STEM))
 
 pub stem_elsewhere : (places : List ℕ) (node p : ℕ) → (node_at places p ≡ node → ⊥) → stems_before places node (suc p) ≡ stems_before places node p

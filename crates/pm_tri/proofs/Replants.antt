@@ -1,5 +1,5 @@
 -- Stem trees that are planted at another of their stems: turns go along with the ring, so nodes and their stems stay.
-use Rattle.std.proofs.Common.{◌≡◌, ℕ, suc, ◌+◌, ◌-◌, ◌%◌, ◌≤◌, ◌<◌, ◌==◌, ◌&&◌, inl, inr, Bool, true, false, List, length, slice_index, refl, ap, ◌∙◌, sym, subst, arith, eqb-true, eq-eqb, zero, [], ◌∷◌, All, IsTrue}
+use Rattle.std.proofs.Common.{◌≡◌, ℕ, suc, ◌+◌, ◌-◌, ◌%◌, ◌≤◌, ◌<◌, ◌==◌, ◌&&◌, inl, inr, Bool, true, false, List, length, slice_index, refl, ap, ◌∙◌, sym, subst, arith, eqb-true, eq-eqb, zero, [], ◌∷◌, All, IsTrue, ◌*◌}
 use Rattle.std.proofs.lemmas.Bool.{false≢true}
 use Rattle.std.proofs.Math.Nat.{add-mod-mod, mod-add-mod}
 use Rattle.pm_perm.specs.Count.{count_below}
@@ -15,10 +15,11 @@ use Rattle.pm_brackets.proofs.Replants.{numbers_turned, planted_count, planted_e
 use Rattle.pm_brackets.proofs.Rings.{letters_stay, ring_turned}
 use Rattle.pm_brackets.proofs.Tally.{tally_is, tally_no}
 use Rattle.std.proofs.lemmas.List.Elements.{All-tail}
-use Rattle.pm_tri.specs.Replanting.{EachStemIsReplanted, IsAlike, IsReplanted, ReplantedIsAlike, ReplantedIsUnique, ReplantingIsUndone, StemsAreTurned}
+use Rattle.pm_tri.specs.Replanting.{all_stems, EachStemIsReplanted, IsAlike, IsReplanted, ReplantedIsAlike, ReplantedIsUnique, ReplantingIsUndone, StemsAreTurned}
 use Rattle.pm_tri.specs.declared.letters.TheConstants.{STEM}
-use Rattle.pm_tri.specs.StemTree.{HasStems, IsInOrder, IsNode, IsStemTree, contour, is_stem_of, node_at, stems}
+use Rattle.pm_tri.specs.StemTree.{nodes, HasStems, IsInOrder, IsNode, IsStemTree, contour, is_stem_of, node_at, stems}
 use Rattle.pm_tri.proofs.NodeTurns.{at_is_node, before_closer, same_at_node, turn_keeps}
+use Rattle.pm_tri.proofs.StemCounts.{stems_count}
 use Rattle.pm_tri.proofs.StemLetters.{stem_is_other}
 
 and_left : (b c : Bool) → (b && c) ≡ true → b ≡ true
@@ -132,7 +133,9 @@ stems_stay word planted other other' start m m' b b' l t h v n =
     omega (arith, few, many, two)
 
 pub each_stem : EachStemIsReplanted
-each_stem word stem t l = planted_exists STEM stem_is_other (omega arith) word stem t.in_order.matched l
+each_stem word stem t l =
+    let h = stems_count word t in
+    planted_exists STEM stem_is_other (omega arith) word stem t.in_order.matched (omega (arith, h, l))
 
 pub replanted_unique : ReplantedIsUnique
 replanted_unique word stem one other t r s = planted_unique STEM stem_is_other (omega arith) word stem one other t.in_order.matched r s
@@ -187,3 +190,10 @@ replanted_from word text stem start letters e h t =
 
 pub alike_from : (word text : List ℕ) (stem start : ℕ) (letters : List ℕ) → text ≡ word → IsStemTree word → IsLetterAt STEM (contour text) stem start → IsTurned (contour text) start (contour letters) → IsAlike word letters
 alike_from word text stem start letters e s h t = replanted_alike word stem letters s (replanted_from word text stem start letters e h t)
+
+-- a number below twice the nodes is that of a stem
+pub stem_few : (word text : List ℕ) (stem : ℕ) → text ≡ word → IsStemTree word → stem < 2 * nodes word → stem < all_stems text
+stem_few word text stem e t l =
+    let h = stems_count word t in
+    let f = ap (λ (xs : List ℕ). all_stems xs) e in
+    omega (arith, h, f, l)

@@ -1,6 +1,6 @@
 -- Replanting: the same plane tree, planted at another of its stems, and its laws. Stems are numbered from 0 along the contour, and
 -- stem 0 is the plant.
-use Rattle.std.specs.Prelude.{◌≡◌, ℕ, ◌<◌, List, length}
+use Rattle.std.specs.Prelude.{◌≡◌, ℕ, ◌*◌, ◌<◌, List, length}
 use Rattle.pm_brackets.specs.Ring.{IsReplantedAt, number_after, place_from}
 use Rattle.pm_brackets.specs.Word.{IsLetterAt, count}
 use Rattle.pm_tri.specs.declared.letters.TheConstants.{STEM}
@@ -9,6 +9,10 @@ use Rattle.pm_tri.specs.StemTree.{IsStemTree, contour, nodes}
 -- how many stems a tree has, the plant counted
 abbrev pub all_stems : List ℕ → ℕ
 all_stems word = count STEM (contour word)
+
+-- twice as many as it has nodes
+abbrev pub StemsAreTwiceNodes : Type 0
+StemsAreTwiceNodes = (word : List ℕ) → IsStemTree word → all_stems word ≡ 2 * nodes word
 
 -- the word of the tree planted at the stem of this number
 abbrev pub IsReplanted : List ℕ → ℕ → List ℕ → Type 0
@@ -23,7 +27,7 @@ pub record IsAlike (word other : List ℕ) : Type 0 where
 
 -- a stem tree can be planted at each of its stems
 abbrev pub EachStemIsReplanted : Type 0
-EachStemIsReplanted = (word : List ℕ) (stem : ℕ) → IsStemTree word → stem < all_stems word → (replanted : List ℕ) × IsReplanted word stem replanted
+EachStemIsReplanted = (word : List ℕ) (stem : ℕ) → IsStemTree word → stem < 2 * nodes word → (replanted : List ℕ) × IsReplanted word stem replanted
 
 -- in one way
 abbrev pub ReplantedIsUnique : Type 0

@@ -80,7 +80,7 @@ fn replants(rt: HostRuntime) -> Result<(), Fail> {
     ] {
         assert!(rt; word.len() < 100);
         let tree = read_tri_tree(rt.alloc(), word)?;
-        assert!(rt; stem < tree.stems());
+        assert!(rt; stem / 2 < tree.nodes());
         assert_eq!(rt; tri_replant(rt.alloc(), &tree, stem)?.letters(), planted);
     }
     Ok(())

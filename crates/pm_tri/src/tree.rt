@@ -1,6 +1,5 @@
 ghost use Rattle.std.specs.Prelude.{◌≡◌, ℕ};
 
-use crate::letters::STEM;
 use pm_brackets::{OPEN, occurrences};
 use std::alloc::AllocError;
 use std::marker::Model;
@@ -49,7 +48,6 @@ impl Model for TriTree {
 impl TriTree {
     ghost use Rattle.std.specs.Prelude.{◌≡◌};
     ghost use Rattle.pm_tri.specs.StemTree.{IsStemTree, nodes};
-    ghost use Rattle.pm_tri.specs.Replanting.{all_stems};
 
     /// The letters of the word, in order; the k-th, from 1, stands at place k.
     pub fn letters(&self) -> &[u8]
@@ -59,14 +57,7 @@ impl TriTree {
         &self.letters
     }
 
-    /// The stems, the plant among them.
-    pub fn stems(&self) -> u32
-        ensures { result ≡ all_stems self.now }
-    {
-        occurrences(&self.letters, STEM) + 1
-    }
-
-    /// The nodes, the root node among them.
+    /// The nodes, the root node among them: half as many as the stems with the plant.
     pub fn nodes(&self) -> u32
         ensures { result ≡ nodes self.now }
     {
