@@ -26,6 +26,7 @@ pub cycle-contains : (f : ℕ → ℕ) (d e : ℕ) (numbers : List ℕ) → IsCy
 cycle-contains f d e numbers c one = subst (λ x. Contains numbers x) one.leads (met f d numbers c one.steps) where
   first : (f : ℕ → ℕ) (d : ℕ) (numbers : List ℕ) → IsCycleFrom f d numbers → Contains numbers d
   first f d numbers c = contains_at numbers d 0 (slice_get_within numbers 0 d c.begins) (get_or_from_slice_get numbers 0 d 0 c.begins)
+
   met : (f : ℕ → ℕ) (d : ℕ) (numbers : List ℕ) → IsCycleFrom f d numbers → (steps : ℕ) → Contains numbers (repeated f steps d)
   met f d numbers c zero = first f d numbers c
   met f d numbers c (suc steps) =
