@@ -258,6 +258,7 @@ def tables(program):
         ("Maps, `unmedial`", lambda case: ["unmedial"], more),
         ("Maps, `dual`", lambda case: ["dual"], more),
         ("Maps, `open eulerian`", lambda case: ["open", "eulerian"], maps),
+        ("Maps, `layers`", lambda case: ["layers"], maps),
         *map(unsampling, CLASSES),
         *map(unread("One record", "draw", "1"), CLASSES),
         *map(unread("Trips", "trip"), CLASSES),

@@ -55,3 +55,6 @@ fn main(rt: HostRuntime) -> ExitCode {
     };
     ExitCode::SUCCESS
 }
+
+#[cfg(test)]
+mod tests;
