@@ -35,4 +35,8 @@ for file in README.md docs/*.md; do
 done
 rm -f map.txt
 echo "documents: $count blocks run"
+# The pages on calling the crates say what the sources do, where python3 is there to compare them.
+if command -v python3 >/dev/null 2>&1 && ! python3 tests/calling.py --check; then
+    status=1
+fi
 exit "$status"

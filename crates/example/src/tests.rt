@@ -1,8 +1,51 @@
-//! The census of small classes, as a program over the libraries takes it.
+//! First calls of the libraries, one crate each.
 use pm_class::MapClass;
 use pm_general::General;
-use pm_reach::{CensusRefusal, census};
+use pm_map::RootedMap;
+use pm_mapfile::{canonical_bytes, read_map_file};
+use pm_reach::{CensusRefusal, census, layers};
 use std::test::Fail;
+
+// A triangle: the vertices 0 2, 1 4 and 3 5, as their rotation.
+#[test]
+fn walks_a_face(rt: HostRuntime) -> Result<(), Fail> {
+    let sigma = Vec::from_slice(rt.alloc(), &[2, 4, 0, 5, 1, 3])?;
+    let map = RootedMap::from_parts(rt.alloc(), sigma, 0)?;
+    let mut face = Vec::new(rt.alloc());
+    for dart in map.face_walk(map.root()) {
+        face.push(dart)?;
+    }
+    assert_eq!(rt; face.as_slice(), [0, 4, 3].as_slice());
+    Ok(())
+}
+
+#[test]
+fn goes_there_and_back(rt: HostRuntime) -> Result<(), Fail> {
+    let edges = 1;
+    assert!(rt; General::admissible(&edges));
+    let sample = General::sample(rt.alloc(), &edges, &[0, 2, 0])?;
+    assert_eq!(rt; sample.map.sigma(), [0, 1].as_slice());
+    let choices = General::unsample(rt.alloc(), &sample.map, sample.residue.values())?;
+    assert_eq!(rt; choices.values(), [0, 2, 0].as_slice());
+    Ok(())
+}
+
+#[test]
+fn reads_a_map_file(rt: HostRuntime) -> Result<(), Fail> {
+    let file = "map 1 1\nv 1\nv 0\nend\n";
+    let (map, residue) = read_map_file(rt.alloc(), file.as_bytes(), 1_000)?;
+    assert!(rt; residue.is_none());
+    assert_eq!(rt; canonical_bytes(rt.alloc(), &map)?.as_slice(), "map 1 0\nv 0\nv 1\nend\n".as_bytes());
+    Ok(())
+}
+
+#[test]
+fn finds_layers(rt: HostRuntime) -> Result<(), Fail> {
+    let sigma = Vec::from_slice(rt.alloc(), &[2, 4, 0, 5, 1, 3])?;
+    let map = RootedMap::from_parts(rt.alloc(), sigma, 0)?;
+    assert_eq!(rt; layers(rt.alloc(), &map)?.distances(), [0, 1, 1, 0, 0, 1].as_slice());
+    Ok(())
+}
 
 // The numbers of edges, of maps by Tutte's formula 2 · 3^n · C(2n, n) / ((n + 1)(n + 2)), and of lists for each map.
 #[test]
