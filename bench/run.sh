@@ -3,7 +3,7 @@
 #
 # PROGRAM is the program to measure; without it, the one that `./planarmap --build` makes.
 # OTHER is a plain program that answers alike, to measure it beside; without it, the one that the environment variable
-# PLANARMAP_YARDSTICK names; without that, the columns of OTHER and the ratios are left out.
+# PLANARMAP_OTHER names; without that, the columns of OTHER and the ratios are left out.
 #
 # The tables go to standard output. Status 0: each run ended with the right status, and both programs printed the same.
 # Status 1: one didn't. Status 2: the words are wrong, or a program isn't there. No time decides a status.
@@ -15,7 +15,7 @@ if [ "$#" -gt 2 ]; then
     exit 2
 fi
 program=${1:-}
-other=${2:-${PLANARMAP_YARDSTICK:-}}
+other=${2:-${PLANARMAP_OTHER:-}}
 
 if [ -z "$program" ]; then
     program=$top/crates/planarmap/out/planarmap
