@@ -6,9 +6,12 @@ pub mod LetterCounts
 pub mod LetterTurns
 pub mod Levels
 pub mod Nesting
+pub mod NodeWalk
+pub mod OpenBrackets
+pub mod OwnLetters
 mod Pairing
 pub mod PlantedAt
-mod Reading
+pub mod Reading
 pub mod Replants
 pub mod RingPlaces
 pub mod Rings

@@ -6,7 +6,7 @@ use Rattle.pm_brackets.specs.declared.letters.TheConstants.{OPEN, CLOSE}
 use Rattle.pm_brackets.specs.Word.{IsMatched, IsBracketing}
 use Rattle.pm_brackets.specs.Word.{IsOther}
 use Rattle.pm_brackets.proofs.Levels.{inside}
-use Rattle.pm_brackets.proofs.Reading.{reverse_push}
+use Rattle.pm_brackets.proofs.NodeWalk.{reverse_push}
 use Rattle.pm_brackets.proofs.Stack.{IsRead, IsKept, IsKeptBut, read_start, read_open, read_close, read_other, close_has_opener, none_open_at_end}
 
 abbrev at : List ℕ → ℕ → ℕ

@@ -1,16 +1,17 @@
 -- A reading with the open brackets in the order in which they came, and the faults that it finds.
 use Rattle.std.proofs.Common.{◌≡◌, ℕ, zero, suc, ◌-◌, ◌<◌, ◌⊎◌, ◌↔◌, inl, inr, min, true, false, List, [], ◌∷◌, ◌++◌, length, reverse, slice_index, All, IsTrue, Option, Some, None, is_some, IsSome, MatchOption, option_to_list, refl, ap, ◌∙◌, sym, subst, arith}
 use Rattle.std.proofs.lemmas.Bool.{cases_lt, cases_Bool, false≢true}
-use Rattle.std.proofs.lemmas.List.{reverse-append, nil_from_length}
+use Rattle.std.proofs.lemmas.List.{nil_from_length}
 use Rattle.pm_brackets.specs.declared.letters.TheConstants.{OPEN, CLOSE}
 use Rattle.pm_brackets.specs.First.{IsFirst}
 use Rattle.pm_brackets.specs.Noted.{lesser}
-use Rattle.pm_brackets.specs.Word.{is_letter_of, IsWordOf, IsFaultOf, IsFirstFault}
+use Rattle.pm_brackets.specs.Word.{is_letter_of, IsWordOf, IsFaultOf, IsFirstFault, IsTextFault}
 use Rattle.pm_brackets.specs.Word.{IsMatched}
 use Rattle.pm_brackets.specs.steps.Faults.{IsForeign, IsUnmatched, IsFirstUnmatched}
-use Rattle.pm_brackets.specs.Word.IsFaultOf.{foreign}
+use Rattle.pm_brackets.specs.Word.IsFaultOf.{foreign, stray, unclosed}
 use Rattle.pm_brackets.specs.Word.{IsOther}
-use Rattle.pm_brackets.proofs.Stack.{HasRead, has_start, has_open, has_close, has_other, matched_at_end, stray_here, unclosed_here, letters_at, matched_no_fault}
+use Rattle.pm_brackets.proofs.NodeWalk.{reverse_push}
+use Rattle.pm_brackets.proofs.Stack.{HasRead, has_start, has_open, has_close, has_other, matched_at_end, stray_here, unclosed_here, matched_no_fault}
 
 -- the brackets that are open before letter i, in the order in which they came, on each plant
 pub record IsReading (word open_places : List ℕ) (i : ℕ) : Type 0 where
@@ -24,9 +25,6 @@ pub reading_start : (word xs : List ℕ) → xs ≡ [] → IsReading word xs 0
 reading_start word xs e =
     let P : List ℕ → Type 0 = λ zs. IsReading word zs 0 in
     subst P (sym e) (record { read = λ plant bare. has_start plant bare word })
-
-pub reverse_push : (xs : List ℕ) (p : ℕ) → reverse (xs ++ p ∷ []) ≡ p ∷ reverse xs
-reverse_push xs p = reverse-append xs (p ∷ [])
 
 -- what an empty pop says of a list
 pub popped_none : (xs : List ℕ) (r : Option ℕ) (n : ℕ) → is_some r ≡ false → (IsSome r ↔ (0 < n)) → n ≡ length xs → xs ≡ []
@@ -87,9 +85,9 @@ fault_from_foreign others plant word (suc k) f =
     let here : suc k - 1 ≡ k = omega arith in
     foreign (let w = f.within in omega arith) (λ good. f.breaks (subst (λ (j : ℕ). IsTrue (is_letter_of others (slice_index word j))) (sym here) good))
 
-good_or_foreign : (others : List ℕ) (plant : ℕ) → IsTrue (is_letter_of others plant) → (word : List ℕ) (k : ℕ) → IsForeign others word k ⊎ (k < length (plant ∷ word) → IsTrue (is_letter_of others (slice_index (plant ∷ word) k)))
-good_or_foreign others plant listed word zero = inr (λ _. listed)
-good_or_foreign others plant listed word (suc k) =
+good_or_foreign : (others : List ℕ) (plant : ℕ) (word : List ℕ) (k : ℕ) → 0 < k → IsForeign others word k ⊎ (k < length (plant ∷ word) → IsTrue (is_letter_of others (slice_index (plant ∷ word) k)))
+good_or_foreign others plant word zero some = absurd (omega arith)
+good_or_foreign others plant word (suc k) some =
     elim (cases_lt k (length word)) [
       | inr g ↦ inr (λ l. absurd (omega arith))
       | inl l ↦ elim (cases_Bool (is_letter_of others (slice_index word k))) [
@@ -100,42 +98,71 @@ good_or_foreign others plant listed word (suc k) =
       ]
     ]
 
+-- where no letter is foreign
+none_foreign : (others word : List ℕ) (plant k : ℕ) → All (λ x. IsTrue (is_letter_of others x)) word → 0 < k → k < length (plant ∷ word) → IsTrue (is_letter_of others (slice_index (plant ∷ word) k))
+none_foreign others word plant zero a some l = absurd (omega arith)
+none_foreign others word plant (suc k) a some l = a k 0 (omega arith)
+
 -- at the least fault of each kind
-module _ (others word : List ℕ) (plant : ℕ) (bare : IsOther plant) (listed : IsTrue (is_letter_of others plant)) where
-  foreign_alone : (k : ℕ) → IsFirst (IsForeign others word) k → IsMatched word → IsFirst (IsFaultOf others (plant ∷ word)) k
+module _ (others word : List ℕ) (plant : ℕ) (bare : IsOther plant) where
+  foreign_alone : (k : ℕ) → IsFirst (IsForeign others word) k → IsMatched word → IsFirst (IsTextFault others plant word) k
   foreign_alone k p q = record {
-    here = fault_from_foreign others plant word k p.here;
+    here = record { behind = p.here.behind; fault = fault_from_foreign others plant word k p.here };
     least = λ j f.
-        elim (good_or_foreign others plant listed word j) [
+        elim (good_or_foreign others plant word j f.behind) [
           | inl a ↦ p.least j a
-          | inr g ↦ absurd (matched_no_fault others plant bare word j q f g)
+          | inr g ↦ absurd (matched_no_fault others plant bare word j q f.fault g)
         ];
   }
 
-  both_kinds : (k m : ℕ) → IsFirst (IsForeign others word) k → IsUnmatched others (plant ∷ word) m → IsFirst (IsFaultOf others (plant ∷ word)) (min k m)
+  bracket_alone : (m : ℕ) → All (λ x. IsTrue (is_letter_of others x)) word → IsUnmatched others (plant ∷ word) m → IsFirst (IsTextFault others plant word) m
+  bracket_alone m p q = record {
+    here = record { behind = q.behind; fault = q.here };
+    least = λ j f. q.least j f.fault (λ l. none_foreign others word plant j p f.behind l);
+  }
+
+  both_kinds : (k m : ℕ) → IsFirst (IsForeign others word) k → IsUnmatched others (plant ∷ word) m → IsFirst (IsTextFault others plant word) (min k m)
   both_kinds k m p q = record {
     here =
-        let R : ℕ → Type 0 = λ j. IsFaultOf others (plant ∷ word) j in
+        let R : ℕ → Type 0 = λ j. IsTextFault others plant word j in
         elim (cases_lt k m) [
-          | inl l ↦ (let e : min k m ≡ k = omega arith in subst R (sym e) (fault_from_foreign others plant word k p.here))
-          | inr g ↦ (let e : min k m ≡ m = omega arith in subst R (sym e) q.here)
+          | inl l ↦ (let e : min k m ≡ k = omega arith in subst R (sym e) (record { behind = p.here.behind; fault = fault_from_foreign others plant word k p.here }))
+          | inr g ↦ (let e : min k m ≡ m = omega arith in subst R (sym e) (record { behind = q.behind; fault = q.here }))
         ];
     least = λ j f.
-        elim (good_or_foreign others plant listed word j) [
+        elim (good_or_foreign others plant word j f.behind) [
           | inl a ↦ (let h = p.least j a in omega arith)
-          | inr g ↦ (let h = q.least j f g in omega arith)
+          | inr g ↦ (let h = q.least j f.fault g in omega arith)
         ];
   }
 
 least_of : (others word : List ℕ) (a b : Option ℕ) → MatchOption a (All (λ x. IsTrue (is_letter_of others x)) word) (IsFirst (IsForeign others word)) → MatchOption b (IsMatched word) (IsFirstUnmatched word)
     → MatchOption (lesser a b) (IsWordOf others word) (IsFirstFault others word)
 least_of others word None None p q = record { letters = p; matched = q }
-least_of others word None (Some m) p q = λ plant bare listed. record { here = (q others plant bare).here; least = λ j f. (q others plant bare).least j f (λ l. letters_at others plant listed word j p l) }
-least_of others word (Some k) None p q = λ plant bare listed. foreign_alone others word plant bare listed k p q
-least_of others word (Some k) (Some m) p q = λ plant bare listed. both_kinds others word plant bare listed k m p (q others plant bare)
+least_of others word None (Some m) p q = λ plant bare. bracket_alone others word plant bare m p (q others plant bare)
+least_of others word (Some k) None p q = λ plant bare. foreign_alone others word plant bare k p q
+least_of others word (Some k) (Some m) p q = λ plant bare. both_kinds others word plant bare k m p (q others plant bare)
 
 pub least_fault : (others word : List ℕ) (a b r : Option ℕ) → MatchOption a (All (λ x. IsTrue (is_letter_of others x)) word) (IsFirst (IsForeign others word)) → MatchOption b (IsMatched word) (IsFirstUnmatched word) → r ≡ lesser a b
     → MatchOption r (IsWordOf others word) (IsFirstFault others word)
 least_fault others word a b r p q e =
     let P : Option ℕ → Type 0 = λ o. MatchOption o (IsWordOf others word) (IsFirstFault others word) in
     subst P (sym e) (least_of others word a b p q)
+
+-- on a plant that may stand there the least fault behind it is the least of all
+pub first_on_listed : (others word : List ℕ) (plant place : ℕ) → IsOther plant → IsTrue (is_letter_of others plant) → IsFirstFault others word place → IsFirst (IsFaultOf others (plant ∷ word)) place
+first_on_listed others word plant place bare listed h = record {
+  here = (h plant bare).here.fault;
+  least = λ k f.
+      elim (cases_lt 0 k) [
+        | inl some ↦ (h plant bare).least k (record { behind = some; fault = f })
+        | inr none ↦
+            let e : k ≡ 0 = omega arith in
+            let P : ℕ → Type 0 = λ j. IsFaultOf others (plant ∷ word) j in
+            absurd (no_fault_at_plant (subst P e f))
+      ];
+} where
+  no_fault_at_plant : IsFaultOf others (plant ∷ word) 0 → ⊥
+  no_fault_at_plant (foreign n bad) = bad listed
+  no_fault_at_plant (stray y none) = bare.not_close y
+  no_fault_at_plant (unclosed y none later) = bare.not_open y

@@ -209,6 +209,7 @@ among_below places (t ∷ rest) s i p c a =
 
 pub stray_here : (others places : List ℕ) (other : ℕ → ℕ) (i : ℕ) → IsOther (slice_index places 0) → slice_index places i ≡ CLOSE → IsRead places other [] i → IsUnmatched others places i
 stray_here others places other i o x r = record {
+  behind = r.chain.before;
   here = stray x (λ p b. no_opener places i p o r.chain b);
   least = λ k f good.
       elim (cases_lt k i) [
@@ -221,8 +222,13 @@ stray_here others places other i o x r = record {
       ];
 }
 
+opener_behind : (places rest : List ℕ) (s : ℕ) → IsChain places rest s → 0 < s
+opener_behind places [] s c = c.before
+opener_behind places (t ∷ rest) s c = let b = c.0.before in omega (arith, b)
+
 pub unclosed_here : (others places : List ℕ) (other : ℕ → ℕ) (rest : List ℕ) (s : ℕ) → IsRead places other (s ∷ rest) (length places) → IsUnmatched others places s
 unclosed_here others places other rest s r = record {
+  behind = opener_behind places rest s r.chain.2;
   here = unclosed r.chain.1 (λ q b. no_closer places rest s q r.chain b)
       (λ p l x.
       elim (r.opened p (inside places p OPEN (omega arith) x) x) [

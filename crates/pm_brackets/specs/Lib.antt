@@ -1,4 +1,5 @@
 pub mod First
+pub mod Node
 pub mod Noted
 pub mod PlantedAt
 pub mod Ring

@@ -62,6 +62,11 @@ pub data IsFaultOf (others places : List ℕ) (place : ℕ) : Type 0 where
   unclosed : slice_index places place ≡ OPEN → ((q : ℕ) → IsBracketPair places place q → ⊥)
       → ((p : ℕ) → place < p → slice_index places p ≡ OPEN → (q : ℕ) × IsBracketPair places p q) → IsFaultOf others places place
 
--- the least fault of the text of a word, on each plant that is one of its letters
+-- a fault of the text of a word on a plant, which isn't a letter of the text
+pub record IsTextFault (others : List ℕ) (plant : ℕ) (word : List ℕ) (place : ℕ) : Type 0 where
+  pub behind : 0 < place
+  pub fault : IsFaultOf others (plant ∷ word) place
+
+-- the least fault of the text of a word, whichever letter the plant is
 abbrev pub IsFirstFault : List ℕ → List ℕ → ℕ → Type 0
-IsFirstFault others word place = (plant : ℕ) → IsOther plant → IsTrue (is_letter_of others plant) → IsFirst (IsFaultOf others (plant ∷ word)) place
+IsFirstFault others word place = (plant : ℕ) → IsOther plant → IsFirst (IsTextFault others plant word) place

@@ -1,11 +1,11 @@
 //! What can be wrong with the text of a word.
-ghost use Rattle.std.specs.Prelude.{◌≡◌, ◌<◌, ◌^◌, All, IfOk, IsTrue, MatchOption, Some, if◌then◌else◌, length};
+ghost use Rattle.std.specs.Prelude.{◌≡◌, ◌<◌, ◌^◌, All, IfOk, IsTrue, MatchOption, length};
 ghost use Rattle.pm_brackets.specs.First.{IsFirst};
-ghost use Rattle.pm_brackets.specs.Noted.{lesser};
 ghost use Rattle.pm_brackets.specs.Word.{IsFirstFault, IsMatched, IsWordOf, is_letter_of};
 ghost use Rattle.pm_brackets.specs.steps.Faults.{IsFirstUnmatched, IsForeign};
 
 use crate::letters::{CLOSE, OPEN};
+use crate::noting::lesser;
 use std::alloc::{AllocError, Global};
 
 /// Whether the byte is a bracket or one of the others.
@@ -59,28 +59,4 @@ pub fn first_fault(alloc: Global, word: &[u8], others: &[u8]) -> Result<Option<u
 {
     let unmatched = first_unmatched(alloc, word)?;
     Ok(lesser(first_foreign(word, others), unmatched))
-}
-
-/// The lesser of two places, of which each may be missing.
-pub fn lesser(first: Option<u32>, second: Option<u32>) -> Option<u32>
-    ensures { result ≡ lesser first second }
-{
-    match first {
-        None => second,
-        Some(a) => match second {
-            None => first,
-            Some(b) => Some(a.min(b)),
-        },
-    }
-}
-
-/// The lesser of the place and the one that was noted before, if the place isn't right; else the one that was noted.
-pub fn noted(found: Option<u32>, place: u32, right: bool) -> Option<u32>
-    ensures { result ≡ (if right then found else lesser found (Some place)) }
-{
-    if right {
-        found
-    } else {
-        lesser(found, Some(place))
-    }
 }

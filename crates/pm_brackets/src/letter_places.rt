@@ -34,7 +34,7 @@ pub fn nth_letter(word: &[u8], letter: u8, number: u32) -> u32
 /// How often the letter stands before this place of a word on a plant of the same letter, the plant counted: the number of
 /// the letter that stands at the place, where it is one.
 pub fn letters_before(word: &[u8], letter: u8, place: u32) -> u32
-    requires small { length word.now < 2 ^ 30 }
+    requires small { length word.now < 2 ^ 32 }
     requires within { place ≤ length word.now }
     ensures { result ≡ count letter (take place (letter ∷ word.now)) }
 {

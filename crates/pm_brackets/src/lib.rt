@@ -6,12 +6,14 @@ mod bracketing;
 mod faults;
 mod letter_places;
 mod letters;
+mod noting;
 mod turning;
 
 pub use bracketing::other_brackets;
-pub use faults::{first_fault, lesser, noted};
+pub use faults::first_fault;
 pub use letter_places::{letters_before, nth_letter, occurrences};
 pub use letters::{CLOSE, OPEN, letter_at};
+pub use noting::noted;
 pub use turning::turned;
 
 #[cfg(test)]

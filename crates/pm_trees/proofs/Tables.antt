@@ -1,21 +1,22 @@
 -- The reading of a word that counts the nodes of each degree: those that were closed are in the table, and those that are
 -- open or to come have what is still to be read.
-use Rattle.std.proofs.Common.{◌≡◌, ℕ, zero, suc, ◌+◌, ◌≤◌, ◌<◌, ◌==◌, ◌||◌, Bool, true, cond, inl, inr, List, [], ◌∷◌, ◌++◌, length, take, drop, reverse, set, slice_index, get_or, Option, Some, option_to_list, replicate, refl, ap, ap₂, sym, ◌∙◌, subst, arith, drop-cons, take_all, eq-eqb, ne_eqb, eqb-true}
+use Rattle.std.proofs.Common.{◌≡◌, ℕ, zero, suc, ◌+◌, ◌≤◌, ◌<◌, ◌==◌, ◌||◌, Bool, true, cond, inl, inr, List, [], ◌∷◌, ◌++◌, length, drop, reverse, set, slice_index, get_or, Option, Some, option_to_list, replicate, refl, ap, ap₂, sym, ◌∙◌, subst, arith, drop-cons, eq-eqb, ne_eqb, eqb-true}
 use Rattle.std.proofs.lemmas.Bool.{cases_eq, cases_lt, cases_Bool, and_parts, or_cases}
-use Rattle.std.proofs.lemmas.List.{drop_all, reverse-append, nil_from_length, length_push, get_or_read, get_or-set_same, get_or-set_other, get_or_past, length-set, length-replicate, get_or-replicate}
+use Rattle.std.proofs.lemmas.List.{drop_all, nil_from_length, length_push, get_or_read, get_or-set_same, get_or-set_other, get_or_past, length-set, length-replicate, get_or-replicate}
 use Rattle.pm_limits.specs.declared.TheConstants.{MAX_DEGREE}
 use Rattle.pm_trees.specs.declared.letters.TheConstants.{BUD}
 use Rattle.pm_brackets.specs.declared.letters.TheConstants.{OPEN, CLOSE}
-use Rattle.pm_brackets.specs.Word.{count, IsMatched}
+use Rattle.pm_brackets.specs.Word.{IsMatched}
 use Rattle.pm_trees.specs.Word.{contour}
 use Rattle.pm_trees.specs.Node.{IsNode, IsDegree, degree, own_letters}
 use Rattle.pm_trees.specs.Blossoming.{IsBlossoming}
 use Rattle.pm_trees.specs.Degrees.{has_degree, nodes_before, nodes_of}
 use Rattle.pm_trees.specs.steps.Counts.{AreCounts}
-use Rattle.pm_brackets.proofs.Tally.{tally, tally_is}
+use Rattle.pm_brackets.proofs.Tally.{tally}
 use Rattle.pm_brackets.specs.Word.{IsOther}
 use Rattle.pm_trees.proofs.Own.{own_length, own_length_is, own_length-nil, own_length_other_here, own_length_other_above, own_length_open_here, own_length_open_above, own_length_close_here, own_length_close_above}
-use Rattle.pm_brackets.proofs.Levels.{seen, seen_is, seen_none, seen_yes, seen_no, inside}
+use Rattle.pm_brackets.proofs.NodeWalk.{none_open, reverse_pop, reverse_push, some_open}
+use Rattle.pm_brackets.proofs.Levels.{seen, seen_none, seen_yes, seen_no, inside}
 use Rattle.pm_trees.proofs.Weights.{value, value_is, inner, inner-nil, inner_open, inner_other}
 use Rattle.pm_trees.proofs.Rings.{of_degree, of_degree_is, contour_weight, nodes_weight}
 
@@ -268,9 +269,6 @@ tallied_other word counts parents entries more i j l o e f t =
           omega (arith, h, c);
     }))
 
-reverse_push : (xs : List ℕ) (p : ℕ) → reverse (xs ++ p ∷ []) ≡ p ∷ reverse xs
-reverse_push xs p = reverse-append xs (p ∷ [])
-
 pub tallied_open : (word counts parents above : List ℕ) (entries more i j : ℕ) → slice_index word i ≡ OPEN → more ≡ suc entries → above ≡ parents ++ more ∷ [] → j ≡ suc i → IsTallied word counts parents entries i → IsTallied word counts above 0 j
 tallied_open word counts parents above entries more i j o e g f t =
     let l = inside word i OPEN (omega arith) o in
@@ -325,9 +323,8 @@ tallied_close word counts new parents above r entries parent i j bl c e g s f t 
     let a = seen_yes CLOSE word i (omega arith) c in
     let b = seen_no OPEN word i (λ w. omega arith) in
     let k = t.level in
-    let whole : parents ≡ above ++ parent ∷ [] = g ∙ ap (λ (o : Option ℕ). above ++ option_to_list o) s in
-    let m = ap length whole ∙ length_push above parent in
-    let v : reverse parents ≡ parent ∷ reverse above = ap reverse whole ∙ reverse_push above parent in
+    let m = ap length (g ∙ ap (λ (o : Option ℕ). above ++ option_to_list o) s) ∙ length_push above parent in
+    let v = reverse_pop parents above r parent g s in
     let n = ap length e ∙ length-set counts (suc entries) (slice_index counts (suc entries) + 1) in
     subst Q (sym f) (record {
       as_long = n ∙ t.as_long;
@@ -347,31 +344,14 @@ tallied_write word counts new parents above r entries place at parent i j bl c e
 
 -- a `)` has a parent to go back to
 pub has_parent : (word counts parents : List ℕ) (entries i : ℕ) → IsMatched word → slice_index word i ≡ CLOSE → IsTallied word counts parents entries i → 0 < length parents
-has_parent word counts parents entries i m c t =
-    let a = seen_yes CLOSE word i (omega arith) c in
-    let b = seen_no OPEN word i (λ w. omega arith) in
-    let d = seen_is CLOSE word (suc i) in
-    let e = seen_is OPEN word (suc i) in
-    let f = tally_is CLOSE (take (suc i) word) in
-    let g = tally_is OPEN (take (suc i) word) in
-    let h = m.never_below (suc i) in
-    let x = t.level in
-    omega (arith, a, b, d, e, f, g, h, x)
-
-none_open : (word parents : List ℕ) → IsMatched word → seen CLOSE word (length word) + length parents ≡ seen OPEN word (length word) → parents ≡ []
-none_open word parents m e =
-    let t : take (length word) word ≡ word = take_all (length word) word (omega arith) in
-    let a = seen_is OPEN word (length word) ∙ tally_is OPEN (take (length word) word) ∙ ap (count OPEN) t in
-    let b = seen_is CLOSE word (length word) ∙ tally_is CLOSE (take (length word) word) ∙ ap (count CLOSE) t in
-    let f = m.equal in
-    nil_from_length parents (omega (arith, a, b, e, f))
+has_parent word counts parents entries i m c t = some_open word i (length parents) m c t.level
 
 -- at the end the root node is left
 at_end : (word counts parents : List ℕ) (entries i d : ℕ) → IsBlossoming word → i ≡ length word → IsTallied word counts parents entries i → slice_index counts d + unit d (suc entries) ≡ nodes_of word d
 at_end word counts parents entries i d b e t =
     let P : ℕ → Type 0 = λ n. IsTallied word counts parents entries n in
     let last : IsTallied word counts parents entries (length word) = subst P e t in
-    let none = none_open word parents b.in_order.matched last.level in
+    let none = nil_from_length parents (none_open word (length parents) b.in_order.matched last.level) in
     let f = last.each d in
     let g = ap (λ (ns : List ℕ). to_come d (entries ∷ reverse ns) (drop (length word) word)) none in
     let h = ap (to_come d (entries ∷ [])) (drop_all (length word) word (omega arith)) in

@@ -1,9 +1,10 @@
 -- Nodes: a node is named by the place of its `(`, and the root node by 0, the place of the plant.
-use Rattle.std.specs.Prelude.{◌≡◌, ℕ, suc, ◌-◌, ◌*◌, ◌%◌, ◌≤◌, ◌==◌, ◌⊎◌, List, [], ◌∷◌, length, slice_index, drop, if◌then◌else◌}
+use Rattle.std.specs.Prelude.{◌≡◌, ℕ, suc, ◌-◌, ◌*◌, ◌%◌, ◌≤◌, ◌==◌, List, [], ◌∷◌, length, drop, if◌then◌else◌}
 use Rattle.pm_limits.specs.declared.TheConstants.{MAX_DEGREE}
 use Rattle.pm_trees.specs.declared.letters.TheConstants.{BUD}
 use Rattle.pm_brackets.specs.declared.letters.TheConstants.{OPEN, CLOSE}
 use Rattle.pm_brackets.specs.Word.{count}
+pub use Rattle.pm_brackets.specs.Node.{IsNode}
 
 -- The letters that stand on the level on which a text begins, where so many brackets are open: what stands inside
 -- brackets is left out, a bracket pair counts as its `(`, and the level ends at the first `)` that closes none of these.
@@ -17,10 +18,6 @@ own_letters depth (x ∷ xs) =
 -- the entries of a node: the letters of its own level, where a child counts as one
 abbrev pub entries : List ℕ → ℕ → List ℕ
 entries places node = own_letters 0 (drop (suc node) places)
-
--- a place that names a node
-abbrev pub IsNode : List ℕ → ℕ → Type 0
-IsNode places node = (node ≡ 0) ⊎ (slice_index places node ≡ OPEN)
 
 -- the degree of a node: its entries, and the edge to its parent or the plant
 abbrev pub degree : List ℕ → ℕ → ℕ

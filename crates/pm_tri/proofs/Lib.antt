@@ -1,5 +1,4 @@
 pub mod NodeTurns
-pub mod OpenBrackets
 pub mod Replants
 pub mod StemCounts
 pub mod StemLetters

@@ -11,7 +11,7 @@ use Rattle.pm_brackets.proofs.RingPlaces.{mod_stays}
 use Rattle.pm_brackets.proofs.Stack.{HasRead, IsChain, IsStretch, close_has_opener, has_close, has_open, has_other, has_start, none_open_at_end}
 use Rattle.pm_tri.specs.declared.letters.TheConstants.{STEM}
 use Rattle.pm_tri.specs.StemTree.{IsNode, contour, node_at, open_before}
-use Rattle.pm_tri.proofs.OpenBrackets.{open_at_close, open_at_open, open_at_other}
+use Rattle.pm_brackets.proofs.OpenBrackets.{open_at_close, open_at_open, open_at_other}
 use Rattle.pm_tri.proofs.StemLetters.{stem_is_other}
 
 -- the open brackets before a place are those of a reading

@@ -6,13 +6,14 @@ use Rattle.pm_perm.proofs.Sums.{count_below-sum, led_sum, led_sum-is, sum_below,
 use Rattle.pm_brackets.specs.declared.letters.TheConstants.{OPEN}
 use Rattle.pm_brackets.specs.Word.{count}
 use Rattle.pm_brackets.proofs.LetterTurns.{seen_all}
+use Rattle.pm_brackets.proofs.OpenBrackets.{open_is_before}
+use Rattle.pm_brackets.proofs.OwnLetters.{not_own}
 use Rattle.pm_brackets.proofs.Levels.{seen, seen_no, seen_none, seen_yes}
 use Rattle.pm_brackets.proofs.Tally.{tally_is, tally_no}
 use Rattle.pm_tri.specs.declared.letters.TheConstants.{STEM}
-use Rattle.pm_tri.specs.StemTree.{IsStemTree, contour, is_stem_of, node_at, stems}
+use Rattle.pm_tri.specs.StemTree.{IsStemTree, contour, is_stem, is_stem_of, node_at, stems}
 use Rattle.pm_tri.specs.Replanting.{StemsAreTwiceNodes}
 use Rattle.pm_tri.proofs.NodeTurns.{at_is_node}
-use Rattle.pm_tri.proofs.OpenBrackets.{not_stem_of, open_is_before}
 use Rattle.pm_tri.proofs.StemLetters.{stem_is_other}
 
 -- one where the letter stands
@@ -82,7 +83,7 @@ stems_are word v t =
                 let c = one_yes OPEN (contour word) v o in
                 omega (arith, two, a, b, c)
             | inr k ↦
-                let none = count_below-none (is_stem_of (contour word) v) (length (contour word)) (λ p l. not_stem_of (contour word) v p (λ e. elim (at_is_node word p t.in_order.matched) [
+                let none = count_below-none (is_stem_of (contour word) v) (length (contour word)) (λ p l. not_own is_stem (contour word) v p (λ e. elim (at_is_node word p t.in_order.matched) [
                   | inl z ↦ n (sym z ∙ e)
                   | inr o ↦ k (ap (slice_index (contour word)) (sym e) ∙ o)
                 ])) in

@@ -10,6 +10,7 @@ pub record IsForeign (others word : List ℕ) (place : ℕ) : Type 0 where
 
 -- the least fault at a letter that may stand there, so at a bracket
 pub record IsUnmatched (others places : List ℕ) (place : ℕ) : Type 0 where
+  pub behind : 0 < place
   pub here : IsFaultOf others places place
   pub least : (k : ℕ) → IsFaultOf others places k → (k < length places → IsTrue (is_letter_of others (slice_index places k))) → place ≤ k
 

@@ -1,4 +1,4 @@
-use Rattle.std.proofs.Common.{List, ◌∷◌, subst, sym, arith}
+use Rattle.std.proofs.Common.{◌∷◌, subst, sym, arith}
 use Rattle.pm_brackets.specs.Word.{IsBracketing}
 use Rattle.pm_brackets.proofs.tests.planted.Goals as goal
 

@@ -19,14 +19,14 @@ pub letters-preserved : goal.letters-preserved
 letters-preserved c =
     elim c.if-letter-eq-CLOSE.branch [
       | then-letter-eq-CLOSE w ↦
-          walking_same _ w.unwrap-node.result _ w.pop.new.self.items _ w.with_node-faults.result _ _ w.node-is (cc) w.faults-is
-          (walking_close _ _ _ _ _ w.pop.result _ _ c.letters.i _ w.if-letter-eq-CLOSE.true w.with_node-faults.ensures.degree w.with_node-faults.ensures.buds w.pop.ensures.items w.unwrap-node.ensures (omega arith) c.letters.invariant)
+          walking_same _ w.unwrap-node.result _ w.pop.new.self.items _ w.with_node-faults.result _ _ _ w.node-is (cc) w.faults-is (omega arith)
+          (walking_close _ _ _ _ _ w.pop.result _ _ c.letters.i w.if-letter-eq-CLOSE.true w.with_node-faults.ensures.degree w.with_node-faults.ensures.buds w.pop.ensures.items w.unwrap-node.ensures c.letters.invariant)
       | else-letter-eq-CLOSE+then-letter-eq-OPEN+in_ok-push w ↦
-          walking_same _ (record { place = c.letters.i + 1; entries = 0; buds = 0 }) _ w.push.new.self.items _ c.letters.faults _ _ w.node-is (cc) w.faults-is
-          (walking_open _ _ w.with_entry-node.result _ _ _ _ c.letters.i _ w.if-letter-eq-OPEN.true (entry_from _ _ _ w.with_entry-node.ensures) w.in_ok-push.ensures.items (omega arith) refl refl (omega arith) c.letters.invariant)
+          walking_same _ (record { place = c.letters.i + 1; entries = 0; buds = 0 }) _ w.push.new.self.items _ c.letters.faults _ _ _ w.node-is (cc) w.faults-is (omega arith)
+          (walking_open _ _ w.with_entry-node.result _ _ _ _ c.letters.i w.if-letter-eq-OPEN.true (entry_from _ _ _ w.with_entry-node.ensures) w.in_ok-push.ensures.items (omega arith) refl refl c.letters.invariant)
       | else-letter-eq-CLOSE+else-letter-eq-OPEN w ↦
-          walking_same _ w.with_entry-node.result _ c.letters.parents.items _ c.letters.faults _ _ w.node-is (cc) w.faults-is
-          (walking_other _ _ _ _ _ c.letters.i _ c.letters-test.true (record { not_open = w.if-letter-eq-OPEN.false; not_close = w.if-letter-eq-CLOSE.false }) (entry_from _ _ _ w.with_entry-node.ensures) (omega arith) c.letters.invariant)
+          walking_same _ w.with_entry-node.result _ c.letters.parents.items _ c.letters.faults _ _ _ w.node-is (cc) w.faults-is (omega arith)
+          (walking_other _ _ _ _ _ c.letters.i c.letters-test.true (record { not_open = w.if-letter-eq-OPEN.false; not_close = w.if-letter-eq-CLOSE.false }) (entry_from _ _ _ w.with_entry-node.ensures) c.letters.invariant)
     ]
 
 pub returns-clause-degree : goal.returns-clause-degree
