@@ -1,5 +1,12 @@
+pub mod BackCounts
+pub mod Fronts
+pub mod HighCorners
 pub mod NodeTurns
 pub mod Replants
+pub mod RunCorners
+pub mod RunStarts
+pub mod RunTurns
+pub mod SideCounts
 pub mod StemCounts
 pub mod StemLetters
 pub mod Unique

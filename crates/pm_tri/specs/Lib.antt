@@ -1,3 +1,6 @@
 pub mod Reading
 pub mod Replanting
+pub mod RunLaws
+pub mod Runs
+pub mod Sides
 pub mod StemTree

@@ -6,12 +6,14 @@ mod letters;
 mod nodes;
 mod read;
 mod replanting;
+mod run_laws;
 mod tree;
 
 pub use laws::{stem_trees_are_replanted, tri_answer_is_unique};
 pub use letters::STEM;
 pub use read::read_tri_tree;
 pub use replanting::tri_replant;
+pub use run_laws::stem_trees_have_two_runs;
 pub use tree::{TriTree, TriTreeRefusal};
 
 #[cfg(test)]
