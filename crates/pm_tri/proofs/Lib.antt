@@ -9,5 +9,6 @@ pub mod RunTurns
 pub mod SideCounts
 pub mod StemCounts
 pub mod StemLetters
+pub mod Triangulations
 pub mod Unique
 mod Walk

@@ -4,3 +4,4 @@ pub mod RunLaws
 pub mod Runs
 pub mod Sides
 pub mod StemTree
+pub mod Triangulations

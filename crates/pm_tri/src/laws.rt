@@ -20,3 +20,19 @@ pub fn stem_trees_are_replanted()
     ensures stems { StemsAreTurned }
     ensures undone { ReplantingIsUndone }
 {}
+
+ghost use Rattle.pm_map.specs.ClassRules.{IsTriangulationAnswer};
+ghost use Rattle.pm_map.specs.Classes.{IsTriangulation};
+ghost use Rattle.pm_map.specs.Rotation.{structure_of};
+ghost use Rattle.pm_class.specs.Sampling.{HasOneAnswer as HasOneClassAnswer, HasSomeAnswer, IsSizeWhereAnswered};
+ghost use Rattle.pm_tri.specs.Triangulations.{IsTriSize, TriangulationsHaveEdges};
+
+/// A simple triangulation of size `n` has `3n` edges and `2n` faces. A map is answered a size by [`crate::tri_size`] exactly
+/// where it is a simple triangulation of that size, which is from 1 and has `3n` at most `MAX_EDGES` then; no map has two
+/// answers, and none is without one.
+pub fn triangulation_answer_is_unique()
+    ensures edges { TriangulationsHaveEdges }
+    ensures sized { IsSizeWhereAnswered IsTriSize (λ n map. IsTriangulation (structure_of map) n) IsTriangulationAnswer }
+    ensures one_answer { HasOneClassAnswer IsTriangulationAnswer }
+    ensures some_answer { HasSomeAnswer IsTriangulationAnswer }
+{}

@@ -7,14 +7,18 @@ mod nodes;
 mod read;
 mod replanting;
 mod run_laws;
+mod size;
 mod tree;
 
-pub use laws::{stem_trees_are_replanted, tri_answer_is_unique};
+pub use laws::{stem_trees_are_replanted, tri_answer_is_unique, triangulation_answer_is_unique};
 pub use letters::STEM;
 pub use read::read_tri_tree;
 pub use replanting::tri_replant;
 pub use run_laws::stem_trees_have_two_runs;
+pub use size::tri_size;
 pub use tree::{TriTree, TriTreeRefusal};
 
+#[cfg(test)]
+mod size_tests;
 #[cfg(test)]
 mod tests;
