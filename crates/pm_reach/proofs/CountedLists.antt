@@ -51,7 +51,7 @@ IsCounting-more bounds samples choices next more entries map residue are c given
 }
 
 -- lists and their maps are as many
-as_many : (samples : List ℕ → RotationSystem → List ℕ → Type 0) (lists : List (List ℕ)) (maps : List RotationSystem)
+pub as_many : (samples : List ℕ → RotationSystem → List ℕ → Type 0) (lists : List (List ℕ)) (maps : List RotationSystem)
     → AllZip (GivesMap samples) lists maps → length maps ≡ length lists
 as_many samples [] [] zip = refl
 as_many samples [] (map ∷ maps) zip = absurd zip

@@ -4,10 +4,12 @@ mod CountedResidues
 mod Distinct
 mod ListWalk
 pub mod NearerFaces
-mod OneCensus
+mod NumberSums
+pub mod OneCensus
 pub mod OneLayers
 mod Products
 mod SameMap
+pub mod SomeCensus
 pub mod SomeLayers
-mod StandingMaps
+pub mod StandingMaps
 mod ToldFaces

@@ -1,10 +1,17 @@
 -- The laws of a census. The parameters are the ghost members of a class.
 use Rattle.std.specs.Prelude.{◌≡◌, ◌⊎◌, ℕ, List, [], ◌∷◌, ⊤}
+use Rattle.std.specs.List.{sum}
+use Rattle.std.specs.Map.{values_of}
 use Rattle.pm_map.specs.Rotation.{RotationSystem}
 use Rattle.pm_class.specs.OneToOne.{IsMember}
 use Rattle.pm_reach.specs.Census.{IsCensus, number_of, product}
 
--- a law: a class and a size have one census
+-- a law: a class and a size have a census
+abbrev pub ClassHasCensus : {Size : Type 0} → (Size → Type 0) → (Size → List ℕ) → (Size → List ℕ → RotationSystem → List ℕ → Type 0) → Type 0
+ClassHasCensus {Size} is_size choice_limits samples =
+    (size : Size) → is_size size → (entries : List (RotationSystem × ℕ)) × IsCensus (choice_limits size) (samples size) entries
+
+-- a law: and no other
 abbrev pub ClassHasOneCensus : {Size : Type 0} → (Size → Type 0) → (Size → List ℕ) → (Size → List ℕ → RotationSystem → List ℕ → Type 0) → Type 0
 ClassHasOneCensus {Size} is_size choice_limits samples =
     (size : Size) (one other : List (RotationSystem × ℕ)) → is_size size → IsCensus (choice_limits size) (samples size) one
@@ -36,3 +43,9 @@ abbrev pub CensusCountsResidues : {Size : Type 0} → (Size → Type 0) → (Siz
 CensusCountsResidues {Size} is_size choice_limits residue_limits has samples =
     (size : Size) (entries : List (RotationSystem × ℕ)) (map : RotationSystem) → is_size size → IsCensus (choice_limits size) (samples size) entries
     → IsMember (has size) map → number_of map entries ≡ product (residue_limits size)
+
+-- a law: the numbers add up to the number of the valid lists, which is the product of the choice bounds
+abbrev pub CensusCountsLists : {Size : Type 0} → (Size → Type 0) → (Size → List ℕ) → (Size → List ℕ → RotationSystem → List ℕ → Type 0) → Type 0
+CensusCountsLists {Size} is_size choice_limits samples =
+    (size : Size) (entries : List (RotationSystem × ℕ)) → is_size size → IsCensus (choice_limits size) (samples size) entries
+    → sum (values_of entries) ≡ product (choice_limits size)

@@ -40,12 +40,13 @@ pub struct CensusList {
 impl Model for CensusList {
     ghost use Rattle.std.specs.Prelude.{◌≤◌, List, ℕ, length};
     ghost use Rattle.pm_map.specs.Rotation.{RotationSystem};
+    ghost use Rattle.pm_reach.specs.declared.lists.TheConstants.{MOST_LISTS};
 
     ghost Value = { List (RotationSystem × ℕ) };
 
     ghost view = { λ census. census.numbers.entries };
 
-    ghost invariant = { λ census. length census.numbers.entries ≤ 1000000 };
+    ghost invariant = { λ census. length census.numbers.entries ≤ MOST_LISTS };
 }
 
 impl CensusList {

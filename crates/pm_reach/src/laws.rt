@@ -1,5 +1,5 @@
 //! Laws of layers and of a census.
-ghost use Rattle.pm_reach.specs.CensusLaws.{CensusCountsResidues, CensusHasEachMapOnce, ClassHasOneCensus};
+ghost use Rattle.pm_reach.specs.CensusLaws.{CensusCountsLists, CensusCountsResidues, CensusHasEachMapOnce, ClassHasCensus, ClassHasOneCensus};
 ghost use Rattle.pm_reach.specs.LayerLaws.{ClosedLevelsAreLayers, EachMapHasLayers, MapHasOneLayers};
 
 use pm_class::MapClass;
@@ -15,9 +15,10 @@ pub fn closed_levels_are_layers()
     ensures { ClosedLevelsAreLayers }
 {}
 
-/// A law of every class: a class and an admissible size have one census.
+/// A law of every class: a class and an admissible size have one census, and no other.
 pub fn class_has_one_census<C: MapClass>()
-    ensures { ClassHasOneCensus C.is_size C.choice_limits C.samples }
+    ensures exists { ClassHasCensus C.is_size C.choice_limits C.samples }
+    ensures one { ClassHasOneCensus C.is_size C.choice_limits C.samples }
 {
     C::is_one_to_one();
 }
@@ -36,3 +37,8 @@ pub fn census_counts_residues<C: MapClass>()
 {
     C::is_one_to_one();
 }
+
+/// A law of every class: in a census the numbers add up to the product of the choice bounds.
+pub fn census_counts_lists<C: MapClass>()
+    ensures { CensusCountsLists C.is_size C.choice_limits C.samples }
+{}

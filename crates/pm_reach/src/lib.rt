@@ -9,7 +9,7 @@ mod map_key;
 
 pub use counting::{CensusList, CensusRefusal, census};
 pub use laws::{
-    census_counts_residues, census_has_each_map_once, class_has_one_census,
+    census_counts_lists, census_counts_residues, census_has_each_map_once, class_has_one_census,
     closed_levels_are_layers, map_has_one_layers,
 };
 pub use layering::{FaceLayers, layers};

@@ -1,5 +1,6 @@
 use Rattle.std.proofs.Common.{ℕ, ◌≤◌, ◌++◌, true, List, length, take, drop, replicate, subst, sym, ap, ◌∙◌, arith}
 use Rattle.pm_map.specs.Rotation.{RotationSystem}
+use Rattle.pm_reach.specs.declared.lists.TheConstants.{MOST_LISTS}
 use Rattle.pm_reach.specs.Census.{IsLastList, IsNextList, product}
 use Rattle.pm_reach.specs.steps.Counting.{IsCounting}
 use Rattle.pm_reach.proofs.CountedLists.{IsCounting-begins, IsCounting-few, IsCounting-more, lists_left-smaller, written_over}
@@ -18,7 +19,7 @@ count_map-requires g c =
     let samples : List ℕ → RotationSystem → List ℕ → Type 0 = g.C.MapClass.samples c.args.size.now in
     let counting : IsCounting c.args.bounds.now samples true c.lists.choices.items c.lists.numbers.entries =
     subst (λ more. IsCounting c.args.bounds.now samples more c.lists.choices.items c.lists.numbers.entries) c.lists-test.true c.lists.invariant in
-    let few : product c.args.bounds.now ≤ 1000000 = c.requires.few in
+    let few : product c.args.bounds.now ≤ MOST_LISTS = c.requires.few in
     omega (arith, few, IsCounting-few c.args.bounds.now samples c.lists.choices.items c.lists.numbers.entries c.in_ok-sample.sample.map counting)
 
 pub lists-smaller : goal.lists-smaller
