@@ -1,9 +1,13 @@
 -- The letters of a node that pass a test, counted so far.
-use Rattle.std.proofs.Common.{◌≡◌, ℕ, zero, suc, ◌+◌, ◌-◌, ◌≤◌, ◌<◌, ◌&&◌, Bool, true, false, cond, List, length, slice_index, refl, ap, ◌∙◌, sym, arith, eq-eqb, ne_eqb}
+use Rattle.std.proofs.Common.{◌≡◌, ℕ, zero, suc, ◌+◌, ◌-◌, ◌≤◌, ◌<◌, ◌&&◌, Bool, true, false, cond, List, ◌∷◌, length, slice_index, refl, ap, ◌∙◌, sym, arith, eq-eqb, ne_eqb}
 use Rattle.pm_perm.specs.Count.{count_below}
 use Rattle.pm_perm.proofs.Counts.{count_below-bound, count_below-none}
 use Rattle.pm_brackets.specs.Node.{is_own, node_at, own}
 use Rattle.pm_brackets.proofs.OpenBrackets.{IsGone, gone_stays, open_is_before}
+
+and_true : (b : Bool) → (b && true) ≡ b
+and_true true = refl
+and_true false = refl
 
 and_false : (b : Bool) → (b && false) ≡ false
 and_false true = refl
@@ -26,10 +30,17 @@ module _ (passes : ℕ → Bool) (places : List ℕ) (node : ℕ) where
   unfolding own_before
   own_step p = refl
 
+  -- at a place of the node
+  pub own_at : (p : ℕ) → node_at places p ≡ node → own_before (suc p) ≡ own_before p + cond {A = ℕ} (passes (slice_index places p)) 1 0
+  own_at p n =
+      let a : cond {A = ℕ} (is_own passes places node p) 1 0 ≡ cond {A = ℕ} (passes (slice_index places p)) 1 0 = rw (eq-eqb (node_at places p) node n, and_true (passes (slice_index places p))) refl in
+      let b = own_step p in
+      omega (arith, a, b)
+
   pub own_here : (p : ℕ) → passes (slice_index places p) ≡ true → node_at places p ≡ node → own_before (suc p) ≡ suc (own_before p)
   own_here p s n =
-      let a : cond {A = ℕ} (is_own passes places node p) 1 0 ≡ 1 = rw (s, eq-eqb (node_at places p) node n) refl in
-      let b = own_step p in
+      let a : cond {A = ℕ} (passes (slice_index places p)) 1 0 ≡ 1 = rw s refl in
+      let b = own_at p n in
       omega (arith, a, b)
 
   pub own_fails : (p : ℕ) → passes (slice_index places p) ≡ false → own_before (suc p) ≡ own_before p
@@ -64,3 +75,10 @@ module _ (passes : ℕ → Bool) (places : List ℕ) (node : ℕ) where
   own_whole p l m g =
       let e : length places ≡ length places - p + p = omega arith in
       sym (own_before_is (length places)) ∙ ap (λ (k : ℕ). own_before k) e ∙ none_behind p (length places - p) l g
+
+-- the plant belongs to the root node
+pub own_start : (passes : ℕ → Bool) (plant : ℕ) (word : List ℕ) → own_before passes (plant ∷ word) 0 1 ≡ cond {A = ℕ} (passes plant) 1 0
+own_start passes plant word =
+    let a = own_at passes (plant ∷ word) 0 0 refl in
+    let b = own_bound passes (plant ∷ word) 0 0 in
+    omega (arith, a, b)

@@ -7,6 +7,7 @@ pub mod LeafTurns
 pub mod Listing
 pub mod OneBud
 pub mod Own
+pub mod OwnEntries
 mod PairRules
 pub mod PlantedAt
 mod Profiles

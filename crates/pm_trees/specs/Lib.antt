@@ -4,6 +4,7 @@ pub mod BudPattern
 pub mod Degrees
 pub mod Leaves
 pub mod Node
+pub mod OwnEntries
 pub mod Pairs
 pub mod PlantedAt
 pub mod Profile

@@ -35,3 +35,12 @@ pub fn profile_answer_is_unique()
     ensures pairs { PairsHaveOneAnswer }
     ensures table { TableHasOneAnswer }
 {}
+
+ghost use Rattle.pm_trees.specs.OwnEntries.{EntriesAreOwn};
+
+/// The entries of a node are the letters of the places that belong to it: of each kind of letters but `)` it owns as many, and
+/// the plant is one more of the root node. So its degree and its buds are counts of its own letters.
+#[tactic(auto, using(crate::proofs::OwnEntries::entries_are_own))]
+pub fn entries_are_own()
+    ensures { EntriesAreOwn }
+{}

@@ -17,7 +17,8 @@ mod tree;
 pub use bracketing::brackets;
 pub use degrees::profile_of;
 pub use laws::{
-    answer_is_unique, profile_answer_is_unique, profiles_are_kept, trees_are_replanted,
+    answer_is_unique, entries_are_own, profile_answer_is_unique, profiles_are_kept,
+    trees_are_replanted,
 };
 pub use leaf_places::leaf_place;
 pub use letters::{BUD, LEAF, letter_at};
