@@ -33,6 +33,8 @@ fn finds_faults(rt: HostRuntime) -> Result<(), Fail> {
         assert!(rt; word.len() < 100);
         assert_eq!(rt; first_fault(rt.alloc(), word, b"s")?, place);
     }
+    // No other letter is listed.
+    assert_eq!(rt; first_fault(rt.alloc(), b"()s(", b"")?, Some(3));
     Ok(())
 }
 
