@@ -1,22 +1,14 @@
 -- The contour read backwards, sides as 1 and stems as -1: its good starts for 2 are the last corners of their heights.
-use Rattle.std.proofs.Common.{◌≡◌, ℕ, zero, suc, ◌+◌, ◌-◌, ◌<◌, ◌≤◌, eqb, cond, inl, inr, List, length, slice_index, get_or, refl, ap, ◌∙◌, sym, arith, ℤ, pos, negsuc, ◌+ℤ◌, neg_ℤ, ◌≤ℤ◌}
+use Rattle.std.proofs.Common.{◌≡◌, ℕ, zero, suc, ◌+◌, ◌-◌, ◌<◌, ◌≤◌, inl, inr, List, length, slice_index, get_or, refl, ap, ◌∙◌, sym, arith, ℤ, pos, negsuc, ◌+ℤ◌, neg_ℤ, ◌≤ℤ◌}
 use Rattle.std.proofs.lemmas.Bool.{cases_eq, cases_lt, eq-eqb, ne_eqb}
 use Rattle.std.proofs.lemmas.Int.{ints}
 use Rattle.pm_words.specs.Word.{IsWord, sum_of}
 use Rattle.pm_words.proofs.Heights.{IsLow, height, height-all, height-more, height-none}
 use Rattle.pm_tri.specs.declared.letters.TheConstants.{STEM}
+use Rattle.pm_tri.specs.steps.ReadBack.{IsReadBack}
 use Rattle.pm_tri.proofs.SideCounts.{IsFalling, IsSideAt, IsStemAt, down, down_none, up, up_none}
 use Rattle.pm_tri.proofs.HighCorners.{high_stem, place_letter, turn_high}
 use Rattle.pm_tri.proofs.RunCorners.{IsDrop}
-
--- the count of a letter
-abbrev pub count_of : ℕ → ℤ
-count_of x = cond (eqb x STEM) (negsuc 0) (pos 1)
-
--- the counts of the letters, from the last place to the first
-pub record IsReadBack (places : List ℕ) (counts : List ℤ) : Type 0 where
-  pub as_long : length counts ≡ length places
-  pub each : (i : ℕ) → i < length places → get_or counts i (pos 0) ≡ count_of (slice_index places (length places - suc i))
 
 module _ (places : List ℕ) (w : IsFalling places) (counts : List ℤ) (b : IsReadBack places counts) where
   -- the count of a place, from its steps

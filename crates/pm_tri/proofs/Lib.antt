@@ -1,7 +1,9 @@
 pub mod BackCounts
+mod CountsRead
 pub mod Fronts
 pub mod HighCorners
 pub mod NodeTurns
+mod PlantScans
 pub mod Replants
 pub mod RunCorners
 pub mod RunStarts

@@ -1,8 +1,9 @@
 -- In each stem tree exactly two stems start runs, by the cycle lemma: the good starts for 2 of its contour read backwards tell them.
-use Rattle.std.proofs.Common.{◌≡◌, ◌⊎◌, ℕ, zero, suc, ◌+◌, ◌-◌, ◌%◌, ◌<◌, min, max, inl, inr, List, [], ◌∷◌, length, slice_index, get_or, refl, ap, ◌∙◌, sym, subst, arith, ℤ, pos}
+use Rattle.std.proofs.Common.{◌≡◌, ◌⊎◌, ℕ, zero, suc, ◌+◌, ◌-◌, ◌%◌, ◌<◌, min, max, inl, inr, List, [], ◌∷◌, length, slice_index, get_or, refl, ap, ◌∙◌, sym, subst, arith, ℤ, pos, neg_ℤ, add-one}
 use Rattle.std.proofs.lemmas.Bool.{cases_eq, cases_lt}
+use Rattle.std.proofs.lemmas.Grind.{get_or_default_zero}
 use Rattle.std.proofs.Math.Nat.{add-mod_right}
-use Rattle.pm_words.specs.Word.{IsGoodStarts}
+use Rattle.pm_words.specs.Word.{IsGoodStarts, IsWord, sum_of}
 use Rattle.pm_words.proofs.Cycle.{good_starts_exist}
 use Rattle.pm_words.proofs.Heights.{IsGoodStart-from_low, IsLow-from_good}
 use Rattle.pm_brackets.specs.PlantedAt.{AreTwo, AreTwoMarks}
@@ -11,7 +12,8 @@ use Rattle.pm_tri.specs.declared.letters.TheConstants.{STEM}
 use Rattle.pm_tri.specs.RunLaws.{TwoRuns}
 use Rattle.pm_tri.specs.Runs.{AreRunStarts, IsRunStart}
 use Rattle.pm_tri.specs.StemTree.{IsStemTree, contour}
-use Rattle.pm_tri.proofs.BackCounts.{IsReadBack, back_sum, back_word, count_of, drop_low, low_drops}
+use Rattle.pm_tri.specs.steps.ReadBack.{IsReadBack, count_of}
+use Rattle.pm_tri.proofs.BackCounts.{back_sum, back_word, drop_low, low_drops}
 use Rattle.pm_tri.proofs.HighCorners.{IsHigh, high_again, high_before}
 use Rattle.pm_tri.proofs.RunCorners.{IsDrop, drop_starts, start_drops}
 use Rattle.pm_tri.proofs.RunTurns.{run_starts_turned}
@@ -206,3 +208,38 @@ two_runs word t =
 -- the stems that start runs are two marks
 pub run_marks : AreTwoMarks STEM IsStemTree IsRunStart
 run_marks = record { two = two_runs; turned = run_starts_turned }
+
+-- what the counts of a tree's word, read backwards, are a word of
+pub record IsCountWord (counts : List ℤ) : Type 0 where
+  pub is_word : IsWord counts
+  pub sum : sum_of counts ≡ neg_ℤ (pos 2)
+
+pub starts_word : (word text : List ℕ) (counts read : List ℤ) → text ≡ word → IsStemTree word → IsReadBack (contour text) counts → read ≡ counts → IsCountWord read
+starts_word word text counts read e t b r =
+    let w = tree_falls word t in
+    let same : IsReadBack (contour word) counts = subst (λ (xs : List ℕ). IsReadBack (contour xs) counts) e b in
+    subst IsCountWord (sym r) (record { is_word = back_word (contour word) w counts same; sum = back_sum (contour word) w counts same })
+
+-- an entry of the good starts of the counts
+start_low : (text : List ℕ) (counts : List ℤ) (starts : List ℕ) (i x : ℕ) → IsReadBack (contour text) counts → IsGoodStarts 2 counts starts → i < 2 → x ≡ get_or starts i x → (x ≡ get_or starts i 0) × (x < length (contour text))
+start_low text counts starts i x b g l e =
+    let two = g.as_many in
+    let same : x ≡ get_or starts i 0 = e ∙ get_or_default_zero starts i x (omega arith) in
+    (same, omega (arith, same, (g.good i (omega arith)).within, b.as_long))
+
+pub entry_low : (text : List ℕ) (counts read : List ℤ) (starts : List ℕ) (i x : ℕ) → IsReadBack (contour text) counts → read ≡ counts → IsGoodStarts 2 read starts → i < 2 → x ≡ get_or starts i x → x < length text + 1
+entry_low text counts read starts i x b r g l e =
+    let low = start_low text counts starts i x b (subst (λ (xs : List ℤ). IsGoodStarts 2 xs starts) r g) l e in
+    omega (arith, low.1)
+
+pub found_starts : (word text : List ℕ) (counts read : List ℤ) (starts : List ℕ) (x y a b places first second : ℕ) → text ≡ word → IsStemTree word → IsReadBack (contour text) counts → read ≡ counts → IsGoodStarts 2 read starts
+    → x ≡ get_or starts 0 x → y ≡ get_or starts 1 y → places ≡ length text + 1 → a ≡ suc (places - x) % places → b ≡ suc (places - y) % places → first ≡ min a b → second ≡ max a b → AreRunStarts (contour word) first second
+found_starts word text counts read starts x y a b places first second e t back r g x_is y_is long a_is b_is low high =
+    let good = subst (λ (xs : List ℤ). IsGoodStarts 2 xs starts) r g in
+    let one = start_low text counts starts 0 x back good (omega arith) x_is in
+    let two = start_low text counts starts 1 y back good (omega arith) y_is in
+    let same : places ≡ length (contour word) = long ∙ add-one (length text) ∙ ap (λ (xs : List ℕ). length (contour xs)) e in
+    told_starts (contour word) (tree_falls word t) counts starts (subst (λ (xs : List ℕ). IsReadBack (contour xs) counts) e back) good a b first second
+    (a_is ∙ ap (λ (n : ℕ). suc (n - x) % n) same ∙ sym (start_place_is (length (contour word)) x) ∙ ap (start_place (length (contour word))) one.0)
+    (b_is ∙ ap (λ (n : ℕ). suc (n - y) % n) same ∙ sym (start_place_is (length (contour word)) y) ∙ ap (start_place (length (contour word))) two.0)
+    low high

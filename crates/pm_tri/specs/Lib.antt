@@ -1,3 +1,4 @@
+pub mod Balance
 pub mod Reading
 pub mod Replanting
 pub mod RunLaws
@@ -5,3 +6,4 @@ pub mod Runs
 pub mod Sides
 pub mod StemTree
 pub mod Triangulations
+pub mod steps

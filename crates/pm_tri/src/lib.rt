@@ -1,21 +1,25 @@
 //! Stem trees, from which simple triangulations are closed: plane trees whose nodes have two stems each, written as words.
 #![tactic(auto)]
 
+mod balance;
 mod laws;
 mod letters;
 mod nodes;
 mod read;
 mod replanting;
 mod run_laws;
+mod runs;
 mod size;
 mod tree;
 
+pub use balance::{Imbalance, why_not_balanced};
 pub use laws::{stem_trees_are_replanted, tri_answer_is_unique, triangulation_answer_is_unique};
 pub use letters::STEM;
 pub use read::read_tri_tree;
 pub use replanting::tri_replant;
 pub use run_laws::stem_trees_have_two_runs;
 pub use size::tri_size;
+pub use runs::run_starts;
 pub use tree::{TriTree, TriTreeRefusal};
 
 #[cfg(test)]

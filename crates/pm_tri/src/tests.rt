@@ -85,3 +85,28 @@ fn replants(rt: HostRuntime) -> Result<(), Fail> {
     }
     Ok(())
 }
+
+#[test]
+fn finds_run_starts(rt: HostRuntime) -> Result<(), Fail> {
+    for (word, starts, why) in [
+        (b"s".as_slice(), (0, 1), None),
+        (b"(ss(ss))s", (0, 3), None),
+        (b"(ss)(ss)s", (0, 7), None),
+        (b"(ss((ss)ss))s", (0, 7), None),
+        (b"s(ss)", (1, 4), Some(Imbalance::Follows { stem: 4 })),
+        (b"s(ss(ss))", (1, 4), Some(Imbalance::Follows { stem: 6 })),
+        (b"s((ss)ss)", (5, 8), Some(Imbalance::Follows { stem: 8 })),
+        (b"((ss)ss)s", (4, 7), Some(Imbalance::Closes { side: 2 })),
+        (
+            b"((ss)(ss)ss)s",
+            (8, 11),
+            Some(Imbalance::Closes { side: 2 }),
+        ),
+    ] {
+        assert!(rt; word.len() < 100);
+        let tree = read_tri_tree(rt.alloc(), word)?;
+        assert_eq!(rt; run_starts(rt.alloc(), &tree)?, starts);
+        assert_eq!(rt; why_not_balanced(&tree), why);
+    }
+    Ok(())
+}
