@@ -18,8 +18,8 @@ pub use letters::STEM;
 pub use read::read_tri_tree;
 pub use replanting::tri_replant;
 pub use run_laws::stem_trees_have_two_runs;
-pub use size::tri_size;
 pub use runs::run_starts;
+pub use size::tri_size;
 pub use tree::{TriTree, TriTreeRefusal};
 
 #[cfg(test)]
