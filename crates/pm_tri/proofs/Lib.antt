@@ -1,8 +1,11 @@
 pub mod BackCounts
+mod ClosingLaws
 mod CountsRead
 pub mod Fronts
 pub mod HighCorners
+pub mod Meetings
 pub mod NodeTurns
+mod OneReason
 mod PlantScans
 pub mod Replants
 pub mod RunCorners

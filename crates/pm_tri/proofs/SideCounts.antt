@@ -113,16 +113,18 @@ three_letters : (word : List ℕ) (p : ℕ) → IsInOrder word → p < length (c
 three_letters word zero order l o = refl
 three_letters word (suc p) order l o = letter_is_stem word p order (omega arith) o
 
-pub each_step : (word : List ℕ) → IsInOrder word → (k : ℕ) → IsSideAt (contour word) k ⊎ IsStemAt (contour word) k
-each_step word order k = elim (cases_eq (letter (contour word) k) OPEN) [
-  | inl e ↦ inl (side_step (contour word) k (inl e))
+-- the letter at a place, also past the end
+pub each_letter : (word : List ℕ) (k : ℕ) → IsInOrder word → ((letter (contour word) k ≡ OPEN) ⊎ (letter (contour word) k ≡ CLOSE)) ⊎ (letter (contour word) k ≡ STEM)
+each_letter word k order = elim (cases_eq (letter (contour word) k) OPEN) [
+  | inl e ↦ inl (inl e)
   | inr a ↦ elim (cases_eq (letter (contour word) k) CLOSE) [
-    | inl e ↦ inl (side_step (contour word) k (inr e))
-    | inr b ↦
-        let within : k % length (contour word) < length (contour word) = mod_under k (length (contour word)) (omega arith) in
-        inr (stem_step (contour word) k (three_letters word (k % length (contour word)) order within (record { not_open = a; not_close = b })))
+    | inl e ↦ inl (inr e)
+    | inr b ↦ inr (three_letters word (k % length (contour word)) order (mod_under k (length (contour word)) (omega arith)) (record { not_open = a; not_close = b }))
   ]
 ]
+
+pub each_step : (word : List ℕ) → IsInOrder word → (k : ℕ) → IsSideAt (contour word) k ⊎ IsStemAt (contour word) k
+each_step word order k = elim (each_letter word k order) [ inl e ↦ inl (side_step (contour word) k e) | inr e ↦ inr (stem_step (contour word) k e) ]
 
 -- one turn on the letters are the same
 letter_again : (places : List ℕ) (k : ℕ) → letter places (length places + k) ≡ letter places k

@@ -1,4 +1,6 @@
 pub mod Balance
+pub mod BalanceLaws
+pub mod ClosingLaws
 pub mod Reading
 pub mod Replanting
 pub mod RunLaws

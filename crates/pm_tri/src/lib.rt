@@ -17,7 +17,7 @@ pub use laws::{stem_trees_are_replanted, tri_answer_is_unique, triangulation_ans
 pub use letters::STEM;
 pub use read::read_tri_tree;
 pub use replanting::tri_replant;
-pub use run_laws::stem_trees_have_two_runs;
+pub use run_laws::{stem_trees_have_two_runs, stems_close_at_sides, tri_imbalance_is_unique};
 pub use runs::run_starts;
 pub use size::tri_size;
 pub use tree::{TriTree, TriTreeRefusal};

@@ -10,3 +10,25 @@ pub fn stem_trees_have_two_runs()
     ensures planted { RunStartBalances }
     ensures balanced { BalancedIsBelow }
 {}
+
+ghost use Rattle.pm_tri.specs.BalanceLaws.{HasOneReason};
+
+/// There is one answer to whether a stem tree is balanced, and why it isn't.
+#[tactic(auto, using(crate::proofs::OneReason::one_reason))]
+pub fn tri_imbalance_is_unique()
+    ensures { HasOneReason }
+{}
+
+ghost use Rattle.pm_tri.specs.ClosingLaws.{ClosesAhead, ClosesAtSide, ClosesOnce, ClosesOrIsFree, ClosesWithin, IsInOneRun, IsInSomeRun};
+
+/// Each stem closes at one side, or it is free, and then in one run. In a balanced tree a stem closes later in the contour,
+/// and the stems between close by then.
+pub fn stems_close_at_sides()
+    ensures each { ClosesOrIsFree }
+    ensures side { ClosesAtSide }
+    ensures once { ClosesOnce }
+    ensures ahead { ClosesAhead }
+    ensures within { ClosesWithin }
+    ensures some_run { IsInSomeRun }
+    ensures one_run { IsInOneRun }
+{}
