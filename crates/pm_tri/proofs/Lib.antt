@@ -4,6 +4,8 @@ mod CountsRead
 pub mod Fronts
 pub mod HighCorners
 pub mod Meetings
+pub mod BitTrees
+pub mod CountReading
 pub mod NodeTurns
 mod OneReason
 mod PlantScans
@@ -14,6 +16,7 @@ pub mod RunTurns
 pub mod SideCounts
 pub mod StemCounts
 pub mod StemLetters
+pub mod StemReading
 pub mod Triangulations
 pub mod Unique
 mod Walk

@@ -1,5 +1,6 @@
 pub mod Balance
 pub mod BalanceLaws
+pub mod Bits
 pub mod ClosingLaws
 pub mod Reading
 pub mod Replanting

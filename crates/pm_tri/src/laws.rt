@@ -36,3 +36,13 @@ pub fn triangulation_answer_is_unique()
     ensures one_answer { HasOneClassAnswer IsTriangulationAnswer }
     ensures some_answer { HasSomeAnswer IsTriangulationAnswer }
 {}
+
+ghost use Rattle.pm_tri.specs.Bits.{BitsHaveTrees, BitsTellTrees, TreesHaveBits};
+
+/// Stem trees are one to one with the lists of bits whose weights, 3 of a one and -1 of a zero, sum to -2, reached at the
+/// last bit only. A tree with `n` nodes has `4n - 2` bits.
+pub fn stem_trees_are_bits()
+    ensures bits { TreesHaveBits }
+    ensures trees { BitsHaveTrees }
+    ensures unique { BitsTellTrees }
+{}

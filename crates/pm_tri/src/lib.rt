@@ -2,6 +2,7 @@
 #![tactic(auto)]
 
 mod balance;
+mod bits;
 mod laws;
 mod letters;
 mod nodes;
@@ -13,7 +14,11 @@ mod size;
 mod tree;
 
 pub use balance::{Imbalance, why_not_balanced};
-pub use laws::{stem_trees_are_replanted, tri_answer_is_unique, triangulation_answer_is_unique};
+pub use bits::{bits_of_tri_tree, tri_tree_of_bits};
+pub use laws::{
+    stem_trees_are_bits, stem_trees_are_replanted, tri_answer_is_unique,
+    triangulation_answer_is_unique,
+};
 pub use letters::STEM;
 pub use read::read_tri_tree;
 pub use replanting::tri_replant;
@@ -22,6 +27,8 @@ pub use runs::run_starts;
 pub use size::tri_size;
 pub use tree::{TriTree, TriTreeRefusal};
 
+#[cfg(test)]
+mod bit_tests;
 #[cfg(test)]
 mod size_tests;
 #[cfg(test)]
