@@ -1,9 +1,10 @@
 //! The bounds of growths, of arrangement codes, and of the choices and the residues of Eulerian maps.
-ghost use Rattle.std.specs.Prelude.{◌≡◌, ◌∷◌, ◌++◌, IfOk, OnOk};
+ghost use Rattle.std.specs.Prelude.{◌≡◌, ◌∷◌, IfOk};
 ghost use Rattle.pm_objects.specs.Codes.{code_bounds};
 ghost use Rattle.pm_euler.specs.Bounds.{growth_bounds, eulerian_choices, eulerian_residues};
 
 use crate::objects::nodes_of;
+use pm_objects::push_code_bounds;
 use pm_trees::{Profile, pattern_count};
 use std::alloc::{AllocError, Global};
 
@@ -18,16 +19,6 @@ pub(crate) fn limits_of_growth(alloc: Global, count: u32) -> Result<Vec<u64>, Al
     Ok(limits)
 }
 
-/// Appends the bounds of an arrangement code of this length.
-fn push_code_limits(limits: &mut Vec<u64>, length: u32) -> Result<(), AllocError>
-    ensures { OnOk result (limits.new.items ≡ limits.old.items ++ code_bounds length) }
-{
-    for place in 0..length {
-        limits.push(u64::from(length - place))?;
-    }
-    Ok(())
-}
-
 /// One bound, and those of an arrangement code of this length.
 pub(crate) fn limits_with_code(
     alloc: Global,
@@ -38,7 +29,7 @@ pub(crate) fn limits_with_code(
 {
     let mut limits = Vec::with_capacity(alloc, length as usize + 1)?;
     limits.push(first)?;
-    push_code_limits(&mut limits, length)?;
+    push_code_bounds(&mut limits, length)?;
     Ok(limits)
 }
 
@@ -52,7 +43,7 @@ pub(crate) fn eulerian_choice_limits(
 {
     let objects = profile.edges() + 1;
     let mut limits = Vec::with_capacity(alloc, objects as usize + nodes_of(profile) as usize + 1)?;
-    push_code_limits(&mut limits, objects)?;
+    push_code_bounds(&mut limits, objects)?;
     for pair in profile.pairs() {
         let patterns = vec![in alloc; pattern_count(pair.0 / 2); pair.1 as usize]?;
         limits.extend_from_slice(&patterns)?;
@@ -74,9 +65,9 @@ pub(crate) fn eulerian_residue_limits(
     let mut limits = Vec::with_capacity(alloc, objects as usize + 2)?;
     limits.push(u64::from(objects))?;
     for pair in profile.pairs() {
-        push_code_limits(&mut limits, pair.1)?;
+        push_code_bounds(&mut limits, pair.1)?;
     }
-    push_code_limits(&mut limits, leaves)?;
+    push_code_bounds(&mut limits, leaves)?;
     limits.push(u64::from(leaves) + 1)?;
     Ok(limits)
 }
