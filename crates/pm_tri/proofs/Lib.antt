@@ -17,6 +17,7 @@ pub mod SideCounts
 pub mod StemCounts
 pub mod StemLetters
 pub mod StemReading
+pub mod TriBounds
 pub mod Triangulations
 pub mod Unique
 mod Walk

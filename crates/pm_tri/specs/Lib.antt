@@ -1,6 +1,7 @@
 pub mod Balance
 pub mod BalanceLaws
 pub mod Bits
+pub mod Bounds
 pub mod ClosingLaws
 pub mod Reading
 pub mod Replanting

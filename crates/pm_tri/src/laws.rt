@@ -46,3 +46,11 @@ pub fn stem_trees_are_bits()
     ensures trees { BitsHaveTrees }
     ensures unique { BitsTellTrees }
 {}
+
+ghost use Rattle.pm_tri.specs.Bounds.{TriBoundsAreLimits};
+
+/// At each size the bounds of the choices and those of the residue of a simple triangulation are bounds, and neither too many
+/// nor too great.
+pub fn triangulation_bounds_are_limits()
+    ensures { TriBoundsAreLimits }
+{}

@@ -3,6 +3,7 @@
 
 mod balance;
 mod bits;
+mod bounds;
 mod laws;
 mod letters;
 mod nodes;
@@ -15,9 +16,10 @@ mod tree;
 
 pub use balance::{Imbalance, why_not_balanced};
 pub use bits::{bits_of_tri_tree, tri_tree_of_bits};
+pub use bounds::{tri_choice_bounds, tri_residue_bounds};
 pub use laws::{
     stem_trees_are_bits, stem_trees_are_replanted, tri_answer_is_unique,
-    triangulation_answer_is_unique,
+    triangulation_answer_is_unique, triangulation_bounds_are_limits,
 };
 pub use letters::STEM;
 pub use read::read_tri_tree;
@@ -29,6 +31,8 @@ pub use tree::{TriTree, TriTreeRefusal};
 
 #[cfg(test)]
 mod bit_tests;
+#[cfg(test)]
+mod bound_tests;
 #[cfg(test)]
 mod size_tests;
 #[cfg(test)]
