@@ -11,6 +11,7 @@ mod OneReason
 mod PlantScans
 pub mod Replants
 pub mod RunCorners
+pub mod RunLevels
 pub mod RunStarts
 pub mod RunTurns
 pub mod SideCounts

@@ -1,8 +1,8 @@
 -- The laws of where the stems of a stem tree close, and of the runs of those that don't.
-use Rattle.std.specs.Prelude.{◌≡◌, ◌⊎◌, ℕ, ◌<◌, ◌≤◌, List, IsTrue, slice_index}
+use Rattle.std.specs.Prelude.{◌≡◌, ◌≢◌, ◌⊎◌, ◌↔◌, ℕ, ◌+◌, ◌<◌, ◌≤◌, List, IsTrue, slice_index}
 use Rattle.pm_tri.specs.declared.letters.TheConstants.{STEM}
-use Rattle.pm_tri.specs.Runs.{IsBalanced, IsClosing, IsFreeStem, IsInRun}
-use Rattle.pm_tri.specs.Sides.{is_side}
+use Rattle.pm_tri.specs.Runs.{IsBalanced, IsClosing, IsFreeStem, IsInRun, IsRunStart}
+use Rattle.pm_tri.specs.Sides.{is_side, sides, stem_steps}
 use Rattle.pm_tri.specs.StemTree.{IsStemTree, contour}
 
 -- each stem closes or is free
@@ -33,3 +33,13 @@ IsInSomeRun = (word : List ℕ) (stem : ℕ) → IsStemTree word → IsFreeStem 
 -- and in no other
 abbrev pub IsInOneRun : Type 0
 IsInOneRun = (word : List ℕ) (start other stem : ℕ) → IsStemTree word → IsInRun (contour word) start stem → IsInRun (contour word) other stem → start ≡ other
+
+-- in a balanced tree the free stems of the plant's run are those before which there are as many sides as stems
+abbrev pub IsInPlantsRun : Type 0
+IsInPlantsRun = (word : List ℕ) (stem : ℕ) → IsStemTree word → IsBalanced (contour word) → IsFreeStem (contour word) stem
+    → (IsInRun (contour word) 0 stem ↔ (sides (contour word) 0 stem ≡ stem_steps (contour word) 0 stem))
+
+-- and those of the other run are those before which there is one stem more
+abbrev pub IsInOtherRun : Type 0
+IsInOtherRun = (word : List ℕ) (start stem : ℕ) → IsStemTree word → IsBalanced (contour word) → IsRunStart (contour word) start → start ≢ 0 → IsFreeStem (contour word) stem
+    → (IsInRun (contour word) start stem ↔ (stem_steps (contour word) 0 stem ≡ sides (contour word) 0 stem + 1))

@@ -19,10 +19,11 @@ pub fn tri_imbalance_is_unique()
     ensures { HasOneReason }
 {}
 
-ghost use Rattle.pm_tri.specs.ClosingLaws.{ClosesAhead, ClosesAtSide, ClosesOnce, ClosesOrIsFree, ClosesWithin, IsInOneRun, IsInSomeRun};
+ghost use Rattle.pm_tri.specs.ClosingLaws.{ClosesAhead, ClosesAtSide, ClosesOnce, ClosesOrIsFree, ClosesWithin, IsInOneRun, IsInOtherRun, IsInPlantsRun, IsInSomeRun};
 
 /// Each stem closes at one side, or it is free, and then in one run. In a balanced tree a stem closes later in the contour,
-/// and the stems between close by then.
+/// and the stems between close by then; and a free stem belongs to the plant's run exactly where as many sides as stems
+/// stand before it, and to the other run where there is one stem more.
 pub fn stems_close_at_sides()
     ensures each { ClosesOrIsFree }
     ensures side { ClosesAtSide }
@@ -31,4 +32,6 @@ pub fn stems_close_at_sides()
     ensures within { ClosesWithin }
     ensures some_run { IsInSomeRun }
     ensures one_run { IsInOneRun }
+    ensures plants_run { IsInPlantsRun }
+    ensures other_run { IsInOtherRun }
 {}
