@@ -36,7 +36,7 @@ at_side word p q t c =
 pub only_once : ClosesOnce
 only_once word p q r t a b = one_closing (contour word) p q r a b
 
-plant_high : (places : List ℕ) → IsFalling places → IsBalanced places → IsHigh places (length places)
+pub plant_high : (places : List ℕ) → IsFalling places → IsBalanced places → IsHigh places (length places)
 plant_high places w b = let e : 0 + length places ≡ length places = omega arith in subst (IsHigh places) e (high_again places w 0 (free_high places w 0 b.is_before.is_free))
 
 pub only_ahead : ClosesAhead

@@ -22,3 +22,4 @@ pub mod TriBounds
 pub mod Triangulations
 pub mod Unique
 mod Walk
+pub mod WholeTree

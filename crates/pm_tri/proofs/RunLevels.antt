@@ -25,13 +25,13 @@ module _ (places : List ℕ) (w : IsFalling places) (b : IsBalanced places) wher
   plant : IsHigh places 0
   plant = free_high places w 0 b.is_before.is_free
 
-  last : IsHigh places (length places - 1)
+  pub last : IsHigh places (length places - 1)
   last =
       let some = w.some in
       let e : 0 + (length places - 1) ≡ length places - 1 = omega arith in
       subst (IsHigh places) e ((start_corners places w 0 (omega arith)).0 b).here
 
-  end_level : down places (length places - 1) ≡ up places (length places - 1) + 1
+  pub end_level : down places (length places - 1) ≡ up places (length places - 1) + 1
   end_level =
       let some = w.some in
       let s = high_stem places w (length places - 1) last in

@@ -79,7 +79,7 @@ abbrev bracket : ℕ → Bool
 bracket x = (x == OPEN) || (x == CLOSE)
 
 -- the step at a place whose letter is known
-side_step : (places : List ℕ) (k : ℕ) → (letter places k ≡ OPEN) ⊎ (letter places k ≡ CLOSE) → IsSideAt places k
+pub side_step : (places : List ℕ) (k : ℕ) → (letter places k ≡ OPEN) ⊎ (letter places k ≡ CLOSE) → IsSideAt places k
 unfolding up down
 side_step places k (inl e) =
     let no : letter places k ≡ STEM → ⊥ = λ f. omega (arith, e, f) in
@@ -97,7 +97,7 @@ side_step places k (inr e) =
       same = none_more (is_stem places) k (ne_eqb (letter places k) STEM no);
     }
 
-stem_step : (places : List ℕ) (k : ℕ) → letter places k ≡ STEM → IsStemAt places k
+pub stem_step : (places : List ℕ) (k : ℕ) → letter places k ≡ STEM → IsStemAt places k
 unfolding up down
 stem_step places k e =
     let open' : letter places k ≡ OPEN → ⊥ = λ f. omega (arith, e, f) in

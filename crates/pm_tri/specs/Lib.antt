@@ -10,4 +10,5 @@ pub mod Runs
 pub mod Sides
 pub mod StemTree
 pub mod Triangulations
+pub mod Whole
 pub mod steps

@@ -13,6 +13,7 @@ mod run_laws;
 mod runs;
 mod size;
 mod tree;
+mod whole_laws;
 
 pub use balance::{Imbalance, why_not_balanced};
 pub use bits::{bits_of_tri_tree, tri_tree_of_bits};
@@ -28,6 +29,7 @@ pub use run_laws::{stem_trees_have_two_runs, stems_close_at_sides, tri_imbalance
 pub use runs::run_starts;
 pub use size::tri_size;
 pub use tree::{TriTree, TriTreeRefusal};
+pub use whole_laws::whole_trees_close_ahead;
 
 #[cfg(test)]
 mod bit_tests;
