@@ -28,6 +28,18 @@ pub record IsMetAt (places : List ℕ) (p q : ℕ) : Type 0 where
   pub is : at % length places ≡ q
   pub meeting : IsMeeting places p at
 
+-- a first rise above a stem's corner, in sides and stems
+pub rises_first : (places : List ℕ) (p i : ℕ) → IsStemAt places p → p < i → up places (suc i) + down places p ≡ up places p + down places (suc i) + 1
+    → ((k : ℕ) → p < k → k ≤ i → up places k + down places p ≤ up places p + down places k) → IsRisen places p (i - p)
+rises_first places p i s after rises low =
+    let f : suc p + (i - p) ≡ suc i = omega arith in
+    let u = ap (up places) f in
+    let d = ap (down places) f in
+    record {
+      sum = omega (arith, u, d, up_stretch places (suc p) (i - p), down_stretch places (suc p) (i - p), rises, s.same, s.more);
+      is_first = λ k l r. omega (arith, up_stretch places (suc p) k, down_stretch places (suc p) k, low (suc p + k) (omega arith) (omega arith), s.same, s.more, r);
+    }
+
 module _ (places : List ℕ) (w : IsFalling places) where
   -- up to its first rise the walk is held
   held_before : (p steps : ℕ) → IsStemAt places p → IsRisen places p steps → 0 < steps → IsHeld places p (steps - 1)
@@ -69,18 +81,9 @@ module _ (places : List ℕ) (w : IsFalling places) where
       let s = stem_at places w p (place_letter places w p (stem_within places w p e) ∙ e) in
       let after = m.after in
       let in_turn = m.in_turn in
-      let f : suc p + (i - p) ≡ suc i = omega arith in
-      let u = ap (up places) f in
-      let d = ap (down places) f in
+      let r = rises_first places p i s m.after m.rises m.held in
       let g : p + (i - p) ≡ i = omega arith in
-      record {
-        stem = e;
-        steps = i - p;
-        in_turn = omega arith;
-        meets = ap (λ (k : ℕ). k % length places) g;
-        sum = omega (arith, u, d, up_stretch places (suc p) (i - p), down_stretch places (suc p) (i - p), m.rises, s.same, s.more);
-        is_first = λ k l r. omega (arith, up_stretch places (suc p) k, down_stretch places (suc p) k, m.held (suc p + k) (omega arith) (omega arith), s.same, s.more, r);
-      }
+      record { stem = e; steps = i - p; in_turn = omega arith; meets = ap (λ (k : ℕ). k % length places) g; sum = r.sum; is_first = r.is_first }
 
   -- a side stands there
   pub meeting_side : (p i : ℕ) → IsMeeting places p i → IsSideAt places i

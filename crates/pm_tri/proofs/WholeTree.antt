@@ -11,26 +11,17 @@ use Rattle.pm_tri.specs.StemTree.{IsStemTree, contour}
 use Rattle.pm_tri.specs.Whole.{ClosesAlike, IsAhead, OtherRunCloses, PlantsRunCloses, whole}
 use Rattle.pm_tri.proofs.ClosingLaws.{plant_high}
 use Rattle.pm_tri.proofs.HighCorners.{free_high, high_stem, place_letter, stem_within}
-use Rattle.pm_tri.proofs.Meetings.{closes_ahead, meeting_side}
+use Rattle.pm_tri.proofs.Meetings.{closes_ahead, meeting_side, rises_first}
 use Rattle.pm_tri.proofs.RunLevels.{end_level, last, other_level, plants_level}
 use Rattle.pm_tri.proofs.RunStarts.{two_runs}
-use Rattle.pm_tri.proofs.SideCounts.{IsFalling, IsSideAt, IsStemAt, down, down_none, down_stretch, each_letter, side_step, stem_step, tree_falls, up, up_none, up_stretch}
+use Rattle.pm_tri.proofs.SideCounts.{IsFalling, IsSideAt, IsStemAt, down, down_none, each_letter, side_step, stem_step, tree_falls, up, up_none}
 
 -- a rise above a stem's corner, as a closing ahead
 meets_ahead : (places : List ℕ) (p q : ℕ) → slice_index places p ≡ STEM → IsStemAt places p → q < length places → p < q → up places (suc q) + down places p ≡ up places p + down places (suc q) + 1
     → ((k : ℕ) → p < k → k ≤ q → up places k + down places p ≤ up places p + down places k) → IsAhead places p q
 meets_ahead places p q e s inside after rises held =
-    let f : suc p + (q - p) ≡ suc q = omega arith in
-    let u = ap (up places) f in
-    let d = ap (down places) f in
-    record {
-      stem = e;
-      steps = q - p;
-      is = omega arith;
-      within = inside;
-      sum = omega (arith, u, d, up_stretch places (suc p) (q - p), down_stretch places (suc p) (q - p), rises, s.same, s.more);
-      is_first = λ k l r. omega (arith, up_stretch places (suc p) k, down_stretch places (suc p) k, held (suc p + k) (omega arith) (omega arith), s.same, s.more, r);
-    }
+    let r = rises_first places p q s after rises held in
+    record { stem = e; steps = q - p; is = omega arith; within = inside; sum = r.sum; is_first = r.is_first }
 
 module _ (word : List ℕ) (t : IsStemTree word) (b : IsBalanced (contour word)) where
   w : IsFalling (contour word)
