@@ -26,7 +26,7 @@ module _ (passes : ℕ → Bool) (places : List ℕ) (node : ℕ) where
   unfolding own_before
   own_bound p = count_below-bound (is_own passes places node) p
 
-  own_step : (p : ℕ) → own_before (suc p) ≡ own_before p + cond {A = ℕ} (is_own passes places node p) 1 0
+  pub own_step : (p : ℕ) → own_before (suc p) ≡ own_before p + cond {A = ℕ} (is_own passes places node p) 1 0
   unfolding own_before
   own_step p = refl
 

@@ -1,4 +1,3 @@
-mod Ahead
 pub mod Balance
 pub mod Binomials
 pub mod CountedPairs
@@ -7,6 +6,7 @@ pub mod LeafTurns
 pub mod Listing
 pub mod OneBud
 pub mod Own
+mod OwnCounts
 pub mod OwnEntries
 mod PairRules
 pub mod PlantedAt

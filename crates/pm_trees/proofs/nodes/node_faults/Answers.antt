@@ -11,8 +11,8 @@ unwrap-node-requires c = c.pop.ensures.variant.1 (let h = walking_parent _ _ _ _
 
 pub with_entry-node-requires : goal.with_entry-node-requires
 with_entry-node-requires c = record {
-  entries = (let h = walking_entries _ _ _ _ _ c.letters-test.true c.if-letter-eq-CLOSE.false c.letters.invariant in omega arith);
-  buds = λ e. (let h = walking_buds _ _ _ _ _ e c.letters.invariant in omega arith);
+  entries = (let h = walking_entries _ _ _ _ _ c.letters-test.true c.letters.invariant in omega arith);
+  buds = λ e. (let h = walking_buds _ _ _ _ _ c.letters-test.true c.letters.invariant in omega arith);
 }
 
 pub letters-preserved : goal.letters-preserved
@@ -20,7 +20,7 @@ letters-preserved c =
     elim c.if-letter-eq-CLOSE.branch [
       | then-letter-eq-CLOSE w ↦
           walking_same _ w.unwrap-node.result _ w.pop.new.self.items _ w.with_node-faults.result _ _ _ w.node-is (cc) w.faults-is (omega arith)
-          (walking_close _ _ _ _ _ w.pop.result _ _ c.letters.i w.if-letter-eq-CLOSE.true w.with_node-faults.ensures.degree w.with_node-faults.ensures.buds w.pop.ensures.items w.unwrap-node.ensures c.letters.invariant)
+          (walking_close _ _ _ _ _ w.pop.result _ _ c.letters.i c.requires.in_order w.if-letter-eq-CLOSE.true w.with_node-faults.ensures.degree w.with_node-faults.ensures.buds w.pop.ensures.items w.unwrap-node.ensures c.letters.invariant)
       | else-letter-eq-CLOSE+then-letter-eq-OPEN+in_ok-push w ↦
           walking_same _ (record { place = c.letters.i + 1; entries = 0; buds = 0 }) _ w.push.new.self.items _ c.letters.faults _ _ _ w.node-is (cc) w.faults-is (omega arith)
           (walking_open _ _ w.with_entry-node.result _ _ _ _ c.letters.i w.if-letter-eq-OPEN.true (entry_from _ _ _ w.with_entry-node.ensures) w.in_ok-push.ensures.items (omega arith) refl refl c.letters.invariant)
