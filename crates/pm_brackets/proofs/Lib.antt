@@ -5,6 +5,8 @@ pub mod Least
 pub mod LetterCounts
 pub mod LetterTurns
 pub mod Levels
+mod LowTurns
+pub mod Lows
 pub mod Nesting
 pub mod NodeWalk
 pub mod OpenBrackets

@@ -4,11 +4,10 @@ ghost use Rattle.pm_trees.specs.Blossoming.{leaves};
 ghost use Rattle.pm_trees.specs.Replanted.{IsReplanted};
 ghost use Rattle.pm_trees.specs.Replanting.{IsAlike};
 
-use crate::bracketing::brackets;
 use crate::leaf_places::leaf_place;
 use crate::letters::LEAF;
 use crate::tree::Tree;
-use pm_brackets::turned;
+use pm_brackets::turned_from;
 use std::alloc::{AllocError, Global};
 
 /// The same plane tree, planted at the leaf of this number, which is below the number of leaves: leaves are numbered from 0
@@ -26,7 +25,6 @@ pub fn replant(alloc: Global, tree: &Tree, leaf: u32) -> Result<Tree, AllocError
     ensures alike { IfOk result (λ replanted. IsAlike tree.now replanted) }
 {
     let start = leaf_place(tree, leaf);
-    let other = brackets(alloc, tree)?;
-    let letters = turned(alloc, LEAF, tree.letters(), &other, start)?;
+    let letters = turned_from(alloc, LEAF, tree.letters(), start)?;
     Ok(Tree { letters })
 }
