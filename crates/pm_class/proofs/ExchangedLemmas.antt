@@ -16,19 +16,6 @@ use Rattle.pm_class.specs.Unsampling.{IsUnsampled}
 use Rattle.pm_class.specs.declared.sample.Sample.{Sample}
 use Rattle.pm_class.proofs.UndoingLemmas.{one_size}
 
--- a map of any names is of the class as its canonical map is
-pub unnamed_in_class : (bounds residues : List ℕ) (has : RotationSystem → Type 0) (samples : RotationSystem → List ℕ → Type 0) (choices : List ℕ) (sample : Sample) → IsKeptByRenumbering has
-    → IsSampledUnnamed bounds residues has samples choices sample → has sample.map
-unnamed_in_class bounds residues has samples choices sample kept s =
-    kept s.canonical sample.map s.sampled.rooted s.rooted (same_symmetric (structure_of sample.map) (structure_of s.canonical) s.rooted.structure s.is_canonical.is_same) s.sampled.in_class
-
--- with its canonical names it is sampled
-pub named_is_sampled : (bounds residues : List ℕ) (has : RotationSystem → Type 0) (samples : RotationSystem → List ℕ → Type 0) (choices : List ℕ) (sample : Sample) (map : RotationSystem)
-    → IsSampledUnnamed bounds residues has samples choices sample → IsCanonicalOf sample.map map → IsSampled bounds residues has samples choices (record { map = map; residue = sample.residue })
-named_is_sampled bounds residues has samples choices sample map s is =
-    subst (λ (m : RotationSystem). IsSampled bounds residues has samples choices (record { map = m; residue = sample.residue }))
-    (canonical_map_is_unique sample.map s.canonical map s.rooted s.is_canonical is) s.sampled
-
 -- two canonical maps that are the same are equal
 canonical_ones : (one other : RotationSystem) (has also : RotationSystem → Type 0) → IsMember has one → IsMember also other → Same (structure_of one) (structure_of other) → one ≡ other
 canonical_ones one other has also is also_is same =
@@ -166,7 +153,7 @@ module _ (image : Structure → Structure → Type 0) (behind class : RotationSy
         }
 
     -- so are they where the darts of what is sampled behind have any names
-    pub sampled_unnamed : (choices : List ℕ) (sample : Sample) (map canonical : RotationSystem) → IsSampledUnnamed bounds residues behind (samples choices) choices sample → IsRootedMap map → IsSameAsImage image map sample.map
+    sampled_unnamed : (choices : List ℕ) (sample : Sample) (map canonical : RotationSystem) → IsSampledUnnamed bounds residues behind (samples choices) choices sample → IsRootedMap map → IsSameAsImage image map sample.map
         → IsCanonicalOf map canonical → IsSampled bounds residues class (SamplesBehind image samples choices) choices (record { map = canonical; residue = sample.residue })
     sampled_unnamed choices sample map canonical s rooted imaged is =
         sampled_before choices (record { map = s.canonical; residue = sample.residue }) map canonical s.sampled rooted (record {
@@ -175,6 +162,13 @@ module _ (image : Structure → Structure → Type 0) (behind class : RotationSy
           is_same = same_transitive (structure_of s.canonical) (structure_of sample.map) imaged.there
               (same_symmetric (structure_of sample.map) (structure_of s.canonical) s.rooted.structure s.is_canonical.is_same) imaged.is_same;
         }) is
+
+    -- so is a map before it
+    pub unnamed_before : (choices : List ℕ) (sample : Sample) (map : RotationSystem) → IsSampledUnnamed bounds residues behind (samples choices) choices sample → IsRootedMap map → IsSameAsImage image map sample.map
+        → IsSampledUnnamed bounds residues class (SamplesBehind image samples choices) choices (record { map = map; residue = sample.residue })
+    unnamed_before choices sample map s rooted imaged =
+        let named : (canonical : RotationSystem) × IsCanonicalOf map canonical = canonical_map_exists map rooted in
+        record { rooted = rooted; canonical = named.0; is_canonical = named.1; sampled = sampled_unnamed choices sample map named.0 s rooted imaged named.1 }
 
     -- choices that give a map behind and the residue give the map and the residue
     pub choices_before : (map other after : RotationSystem) (residue choices : List ℕ) → IsRootedMap map → IsRootedMap other → class map → IsSameAsImage image map other

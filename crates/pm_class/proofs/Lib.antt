@@ -1,3 +1,4 @@
 pub mod ExchangedLemmas
 pub mod OneToOneLemmas
 pub mod UndoingLemmas
+pub mod UnnamedLemmas

@@ -9,7 +9,8 @@ use Rattle.pm_canon.proofs.ExistenceLemmas.{canonical_map_exists}
 use Rattle.pm_class.specs.ClassLaws.{IsKeptByRenumbering}
 use Rattle.pm_class.specs.OneToOne.{IsMember, IsGiven, AreOneToOne}
 use Rattle.pm_class.specs.Sampling.{IsSizeWhereAnswered, HasOneAnswer}
-use Rattle.pm_class.specs.Undoing.{UnsamplingUndoes, SamplingUndoes, EachMapIsUnsampled, ListsAreResidues}
+use Rattle.pm_class.specs.Undoing.{UnsamplingUndoes, UnsamplingUndoesUnnamed, SamplingUndoes, EachMapIsUnsampled, ListsAreResidues}
+use Rattle.pm_class.proofs.UnnamedLemmas.{unnamed_in_class}
 
 same_size : {Size : Type 0} (a b : Size) → ◌≡◌ {A = Result Size ClassRefusal} (Ok a) (Ok b) → a ≡ b
 same_size a b e = cc
@@ -29,6 +30,15 @@ module _ {Size : Type 0} (is_size : Size → Type 0) (choice_limits residue_limi
       let given : samples size found sample.map sample.residue =
       subst (λ (m : RotationSystem). samples size found m sample.residue) maps (subst (λ (n : Size). samples n found u.canonical sample.residue) sizes u.given) in
       (law size is).one_list found choices sample.map sample.residue given s.given
+
+  pub unsampling_undoes_unnamed : ((size : Size) → is_size size → IsKeptByRenumbering (has size)) → UnsamplingUndoesUnnamed is_size choice_limits residue_limits has answers samples
+  unsampling_undoes_unnamed kept size choices found sample is s u =
+      let in_class : has size sample.map = unnamed_in_class (choice_limits size) (residue_limits size) (has size) (samples size choices) choices sample (kept size is) s in
+      let sizes : u.size ≡ size = one_size sample.map u.size size s.rooted u.in_class ((sized sample.map size s.rooted).1 (is, in_class)) in
+      let maps : u.canonical ≡ s.canonical = canonical_map_is_unique sample.map u.canonical s.canonical s.rooted u.is_canonical s.is_canonical in
+      let given : samples size found s.canonical sample.residue =
+      subst (λ (m : RotationSystem). samples size found m sample.residue) maps (subst (λ (n : Size). samples n found u.canonical sample.residue) sizes u.given) in
+      (law size is).one_list found choices s.canonical sample.residue given s.sampled.given
 
   pub sampling_undoes : SamplingUndoes is_size choice_limits residue_limits has answers samples
   sampling_undoes size map residue choices sample rooted answered u s =

@@ -7,7 +7,7 @@ use Rattle.pm_map.specs.Canonical.{IsCanonicalOf}
 use Rattle.pm_map.specs.declared.class_refusal.ClassRefusal.{ClassRefusal}
 use Rattle.pm_class.specs.declared.sample.Sample.{Sample}
 use Rattle.pm_class.specs.OneToOne.{IsMember, IsGiven}
-use Rattle.pm_class.specs.Sampling.{IsSampled}
+use Rattle.pm_class.specs.Sampling.{IsSampled, IsSampledUnnamed}
 use Rattle.pm_class.specs.Unsampling.{IsUnsampled}
 
 -- a law: what is unsampled from a sample are the choices that gave it
@@ -15,6 +15,13 @@ abbrev pub UnsamplingUndoes : {Size : Type 0} → (Size → Type 0) → (Size �
     → (RotationSystem → Result Size ClassRefusal → Type 0) → (Size → List ℕ → RotationSystem → List ℕ → Type 0) → Type 0
 UnsamplingUndoes {Size} is_size choice_limits residue_limits has answers samples =
     (size : Size) (choices found : List ℕ) (sample : Sample) → is_size size → IsSampled (choice_limits size) (residue_limits size) (has size) (samples size choices) choices sample
+    → IsUnsampled choice_limits residue_limits samples answers sample.map sample.residue found → found ≡ choices
+
+-- a law: so it is where the darts of the sample have any names
+abbrev pub UnsamplingUndoesUnnamed : {Size : Type 0} → (Size → Type 0) → (Size → List ℕ) → (Size → List ℕ) → (Size → RotationSystem → Type 0)
+    → (RotationSystem → Result Size ClassRefusal → Type 0) → (Size → List ℕ → RotationSystem → List ℕ → Type 0) → Type 0
+UnsamplingUndoesUnnamed {Size} is_size choice_limits residue_limits has answers samples =
+    (size : Size) (choices found : List ℕ) (sample : Sample) → is_size size → IsSampledUnnamed (choice_limits size) (residue_limits size) (has size) (samples size choices) choices sample
     → IsUnsampled choice_limits residue_limits samples answers sample.map sample.residue found → found ≡ choices
 
 -- a law: what the unsampled choices give is the map, in its canonical numbering, and the residue

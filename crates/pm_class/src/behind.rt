@@ -5,11 +5,10 @@ ghost use Rattle.pm_map.specs.Rotation.{RotationSystem};
 ghost use Rattle.pm_map.specs.Structure.{Structure};
 ghost use Rattle.pm_class.specs.Behind.{AreChoicesOf, AreExchanged, IsSameAsImage, SamplesBehind};
 ghost use Rattle.pm_class.specs.OneToOne.{AreOneToOne};
-ghost use Rattle.pm_class.specs.Sampling.{IsSampled, IsSampledUnnamed};
+ghost use Rattle.pm_class.specs.Sampling.{IsSampledUnnamed};
 
 use crate::map_class::MapClass;
 use crate::sample::Sample;
-use pm_canon::canon;
 use pm_lists::NumList;
 use pm_map::RootedMap;
 use std::alloc::{AllocError, Global};
@@ -25,20 +24,6 @@ pub trait SampledThrough {
 
     // The map is in the class and has the size.
     ghost contains: { Self.Behind.Size → RotationSystem → Type 0 };
-
-    /// A map of the class behind, whose darts have any names, and the residue: those of choices that are valid for a size.
-    ///
-    /// # Errors
-    ///
-    /// `AllocError` where memory runs out.
-    fn sample_behind(
-        alloc: Global,
-        size: &<Self::Behind as MapClass>::Size,
-        choices: &[u64],
-    ) -> Result<Sample, AllocError>
-        requires size { Self.Behind.is_size size.now }
-        requires valid { IsValidList choices.now (Self.Behind.choice_limits size.now) }
-        ensures { IfOk result (λ sample. IsSampledUnnamed (Self.Behind.choice_limits size.now) (Self.Behind.residue_limits size.now) (Self.Behind.has size.now) (Self.Behind.samples size.now choices.now) choices.now sample) };
 
     /// A map of which one of the class behind is the image.
     ///
@@ -75,32 +60,30 @@ pub trait SampledThrough {
 }
 
 /// The map and the residue that choices give which are valid for an admissible size of the class behind: what they give
-/// there, and the canonical map of which that map is the image.
+/// there, and a map of which that map is the image. Its darts have any names.
 ///
 /// # Errors
 ///
 /// `AllocError` where memory runs out.
-pub fn sample_through<C: SampledThrough>(
+pub fn sample_unnamed_through<C: SampledThrough>(
     alloc: Global,
     size: &<C::Behind as MapClass>::Size,
     choices: &[u64],
 ) -> Result<Sample, AllocError>
     requires size { C.Behind.is_size size.now }
     requires valid { IsValidList choices.now (C.Behind.choice_limits size.now) }
-    ensures { IfOk result (λ sample. IsSampled (C.Behind.choice_limits size.now) (C.Behind.residue_limits size.now) (C.contains size.now) (SamplesBehind C.image (C.Behind.samples size.now) choices.now) choices.now sample) }
+    ensures { IfOk result (λ sample. IsSampledUnnamed (C.Behind.choice_limits size.now) (C.Behind.residue_limits size.now) (C.contains size.now) (SamplesBehind C.image (C.Behind.samples size.now) choices.now) choices.now sample) }
 {
     C::is_exchanged();
     C::Behind::is_one_to_one();
-    let Sample {
-        map: behind,
-        residue,
-    } = C::sample_behind(alloc, size, choices)?;
-    let named = C::map_of(alloc, size, &behind)?;
-    drop(behind);
+    let behind = C::Behind::sample_unnamed(alloc, size, choices)?;
+    let map = C::map_of(alloc, size, &behind.map)?;
     // Its contract says that the map is a rooted one.
-    let _edges = named.edges();
-    let map = canon(alloc, &named)?;
-    Ok(Sample { map, residue })
+    let _edges = map.edges();
+    Ok(Sample {
+        map,
+        residue: behind.residue,
+    })
 }
 
 /// The choices that give the canonical map of a map of the class, and a residue that is valid for its size: those that give

@@ -1,6 +1,6 @@
 //! What follows for every class from its laws.
 ghost use Rattle.pm_class.specs.Sampling.{EachListIsSampled};
-ghost use Rattle.pm_class.specs.Undoing.{UnsamplingUndoes, SamplingUndoes, EachMapIsUnsampled, ListsAreResidues};
+ghost use Rattle.pm_class.specs.Undoing.{UnsamplingUndoes, UnsamplingUndoesUnnamed, SamplingUndoes, EachMapIsUnsampled, ListsAreResidues};
 
 use crate::map_class::MapClass;
 
@@ -8,6 +8,13 @@ use crate::map_class::MapClass;
 /// that gave it.
 pub fn unsample_undoes_sample<C: MapClass>()
     ensures { UnsamplingUndoes C.is_size C.choice_limits C.residue_limits C.has C.answers C.samples }
+{
+    C::is_one_to_one();
+}
+
+/// A law of every class, to call upon; nothing is computed. `unsample` undoes `sample_unnamed` too.
+pub fn unsample_undoes_unnamed<C: MapClass>()
+    ensures { UnsamplingUndoesUnnamed C.is_size C.choice_limits C.residue_limits C.has C.answers C.samples }
 {
     C::is_one_to_one();
 }

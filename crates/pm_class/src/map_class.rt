@@ -5,10 +5,11 @@ ghost use Rattle.pm_map.specs.Rotation.{RotationSystem};
 ghost use Rattle.pm_map.specs.declared.class_refusal.ClassRefusal.{ClassRefusal};
 ghost use Rattle.pm_class.specs.ClassLaws.{IsKeptByRenumbering, AreLimits, HasMostEdges};
 ghost use Rattle.pm_class.specs.OneToOne.{AreOneToOne};
-ghost use Rattle.pm_class.specs.Sampling.{IsSampled, IsSampling, IsSizeWhereAnswered, HasOneAnswer, HasSomeAnswer};
+ghost use Rattle.pm_class.specs.Sampling.{IsSampled, IsSampledUnnamed, IsSampling, IsSizeWhereAnswered, HasOneAnswer, HasSomeAnswer};
 ghost use Rattle.pm_class.specs.Unsampling.{IsUnsampled, IsUnsampling};
 
 use crate::sample::{Sample, SampleRefusal, UnsampleRefusal};
+use pm_canon::canon;
 use pm_lists::{Bounds, NumList, check_list};
 use pm_map::{ClassRefusal, RootedMap};
 use std::alloc::{AllocError, Global};
@@ -97,7 +98,29 @@ pub trait MapClass {
     fn sample_valid(alloc: Global, size: &Self::Size, choices: &[u64]) -> Result<Sample, AllocError>
         requires size { is_size size.now }
         requires valid { IsValidList choices.now (choice_limits size.now) }
-        ensures { IfOk result (λ sample. IsSampled (choice_limits size.now) (residue_limits size.now) (has size.now) (samples size.now choices.now) choices.now sample) };
+        ensures { IfOk result (λ sample. IsSampled (choice_limits size.now) (residue_limits size.now) (has size.now) (samples size.now choices.now) choices.now sample) }
+    {
+        let unnamed = Self::sample_unnamed(alloc, size, choices)?;
+        let map = canon(alloc, &unnamed.map)?;
+        Ok(Sample {
+            map,
+            residue: unnamed.residue,
+        })
+    }
+
+    /// The same, with any names of the map's darts: the canonical map of that map is the one that `sample_valid` gives.
+    ///
+    /// # Errors
+    ///
+    /// `AllocError` where memory runs out.
+    fn sample_unnamed(
+        alloc: Global,
+        size: &Self::Size,
+        choices: &[u64],
+    ) -> Result<Sample, AllocError>
+        requires size { is_size size.now }
+        requires valid { IsValidList choices.now (choice_limits size.now) }
+        ensures { IfOk result (λ sample. IsSampledUnnamed (choice_limits size.now) (residue_limits size.now) (has size.now) (samples size.now choices.now) choices.now sample) };
 
     /// The choices that give the canonical map of the map, and this residue: the one valid list for the map's size that
     /// does.

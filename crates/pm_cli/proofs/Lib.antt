@@ -29,5 +29,6 @@ pub mod Sizes
 pub mod StoppingWords
 pub mod TaskLaws
 pub mod TreeLines
+pub mod UnnamedTexts
 pub mod WholeDrawings
 pub mod WordTables

@@ -9,21 +9,21 @@ use Rattle.pm_text.specs.Broken.{newline}
 use Rattle.pm_lists.specs.ListLine.{SpellsList, list_line}
 use Rattle.pm_map.specs.Rotation.{RotationSystem}
 use Rattle.pm_draw.specs.Drawn.{generator_of, words_of, drawn}
-use Rattle.pm_cli.specs.Sampling.{IsChoicesLine, IsTextOfSample, IsSampleText}
+use Rattle.pm_cli.specs.Sampling.{IsChoicesLine, IsSampleText}
 use Rattle.pm_cli.specs.Drawing.{IsRecord, left_after, AreRecords, IsDrawing, HasFirstRecords, RecordsGoOn}
 use Rattle.pm_cli.specs.steps.Streams.{HasAddedFront, HasAddedFirst}
 use Rattle.pm_cli.proofs.ChoicesLines.{line_of}
 
 -- the line of the choices, and the text that they give
-pub record_made : (samples : List ℕ → RotationSystem → List ℕ → Type 0) (choices list : List ℕ) (map : RotationSystem) (residue before line rest text : List ℕ)
-    → list ≡ choices → samples list map residue → SpellsList (codes "choices") (list_line (codes "choices") list) list → IsTextOfSample map residue rest
+pub record_made : (samples : List ℕ → RotationSystem → List ℕ → Type 0) (choices list before line rest text : List ℕ)
+    → list ≡ choices → SpellsList (codes "choices") (list_line (codes "choices") list) list → IsSampleText samples list rest
     → before ≡ [] → line ≡ before ++ (list_line (codes "choices") list ++ newline ∷ []) → text ≡ line ++ rest → IsRecord samples choices text
-record_made samples choices list map residue before line rest text same given spells is_rest none is_line whole =
+record_made samples choices list before line rest text same spells is_rest none is_line whole =
     subst (λ (c : List ℕ). IsRecord samples c text) same (record {
       line = line;
       is_line = subst (IsChoicesLine list) (sym (is_line ∙ ap (λ (b : List ℕ). b ++ (list_line (codes "choices") list ++ newline ∷ [])) none)) (line_of (list_line (codes "choices") list) list spells);
       rest = rest;
-      is_rest = record { map = map; residue = residue; sampled = given; is_text = is_rest };
+      is_rest = is_rest;
       whole = whole;
     })
 

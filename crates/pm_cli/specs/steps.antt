@@ -5,4 +5,5 @@ pub mod FirstLine
 pub mod MapReading
 pub mod Streams
 pub mod TreeFile
+pub mod Unnamed
 pub mod Words

@@ -33,7 +33,7 @@ fn draw_record<C: MapClass>(
     ensures left { OnOk result (words_of rng.new ≡ (drawn bounds.now (words_of rng.old)).1) }
 {
     let choices = draw_list(alloc, rng, bounds)?;
-    let sample = C::sample_valid(alloc, size, choices.values())?;
+    let sample = C::sample_unnamed(alloc, size, choices.values())?;
     let mut text = Vec::new(alloc);
     put_list(alloc, b"choices", &choices, &mut text)?;
     text.extend_from_slice(&sample_text(alloc, &sample)?)?;

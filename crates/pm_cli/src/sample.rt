@@ -1,26 +1,26 @@
 ghost use Rattle.std.specs.Prelude.{◌≤◌, length, IfOk};
 ghost use Rattle.pm_io.specs.declared.TheConstants.{MAX_BYTES as limit};
 ghost use Rattle.pm_cli.specs.steps.Answering.{IsAnswerBy};
-ghost use Rattle.pm_cli.specs.Sampling.{IsTextOfSample, Samples};
+ghost use Rattle.pm_cli.specs.Sampling.{Samples};
+ghost use Rattle.pm_cli.specs.steps.Unnamed.{IsTextOfUnnamed};
 
 use crate::choices_file::read_choices;
 use crate::refusal::{Refusal, Stop};
-use pm_class::{MapClass, Sample, SampleRefusal};
-use pm_lists::put_list;
-use pm_mapfile::map_bytes;
+use pm_class::{MapClass, Sample};
+use pm_lists::{check_list, put_list};
+use pm_mapfile::canonical_bytes;
 use std::alloc::{AllocError, Global};
 
-// The text of the map, and the line of the residue.
+// The text of the canonical map of the sample's map, and the line of the residue.
 pub(crate) fn sample_text(alloc: Global, sample: &Sample) -> Result<Vec<u8>, AllocError>
-    ensures { IfOk result (λ text. IsTextOfSample sample.now.map sample.now.residue text.items) }
+    ensures { IfOk result (λ text. IsTextOfUnnamed sample.now.map sample.now.residue text.items) }
 {
-    let mut text = map_bytes(alloc, &sample.map)?;
+    let mut text = canonical_bytes(alloc, &sample.map)?;
     put_list(alloc, b"residue", &sample.residue, &mut text)?;
     Ok(text)
 }
 
 // `sample CLASS SIZE`: the text of the map and the residue that the choices in the file give.
-#[tactic(auto, using(crate::specs::Sampling::sampled, crate::specs::Sampling::not_valid))]
 pub(crate) fn sample<C: MapClass>(
     alloc: Global,
     size: &C::Size,
@@ -37,12 +37,12 @@ pub(crate) fn sample<C: MapClass>(
     }) bytes.now) result }
 {
     let choices = read_choices(alloc, bytes)?;
-    let sample = match C::sample(alloc, size, choices.values()) {
-        Ok(sample) => sample,
-        Err(SampleRefusal::Memory) => return Err(Stop::Memory),
-        Err(SampleRefusal::List(refusal)) => {
-            return Err(Stop::Refused(Refusal::Invalid(refusal)));
-        }
-    };
+    let bounds = C::choice_bounds(alloc, size)?;
+    if let Err(refusal) = check_list(choices.values(), &bounds) {
+        return Err(Stop::Refused(Refusal::Invalid(refusal)));
+    }
+    drop(bounds);
+    let sample = C::sample_unnamed(alloc, size, choices.values())?;
+    drop(choices);
     Ok(sample_text(alloc, &sample)?)
 }

@@ -20,7 +20,6 @@ use crate::map_profile::profile_of_map;
 use crate::object_order::{halves_in, kinds_of, ranks_by_object};
 use crate::objects::{halves_of, nodes_of, ranges_of};
 use crate::unplanting::unplant;
-use pm_canon::canon;
 use pm_class::{MapClass, Sample};
 use pm_lehmer::{arrange, code};
 use pm_limits::MAX_EDGES;
@@ -77,12 +76,19 @@ impl MapClass for Eulerian {
         profile_of_map(alloc, map)
     }
 
-    fn sample_valid(alloc: Global, size: &Profile, choices: &[u64]) -> Result<Sample, AllocError> {
-        let unnamed = Eulerian::sample_unnamed(alloc, size, choices)?;
-        let map = canon(alloc, &unnamed.map)?;
+    fn sample_unnamed(
+        alloc: Global,
+        size: &Profile,
+        choices: &[u64],
+    ) -> Result<Sample, AllocError> {
+        let last = choices.len() - 1;
+        let made = make(alloc, size, &choices[..last])?;
+        let closed = closed_anew(alloc, &made.tree, choices[last])?;
+        let mut residue = made.rest;
+        residue.push(u64::from(closed.old_plant))?;
         Ok(Sample {
-            map,
-            residue: unnamed.residue,
+            map: closed.map,
+            residue: NumList::of(residue),
         })
     }
 
@@ -102,34 +108,6 @@ impl MapClass for Eulerian {
     }
 
     fn is_one_to_one() {}
-}
-
-impl Eulerian {
-    /// The map and the residue of choices that are valid for an admissible size, with any names of the darts: the canonical
-    /// map of that map is the one that `sample` gives.
-    ///
-    /// # Errors
-    ///
-    /// `AllocError` where memory runs out.
-    pub fn sample_unnamed(
-        alloc: Global,
-        size: &Profile,
-        choices: &[u64],
-    ) -> Result<Sample, AllocError>
-        requires size { IsProfile size.now }
-        requires valid { IsValidList choices.now (eulerian_choices size.now) }
-        ensures { IfOk result (λ sample. IsSampledUnnamed (eulerian_choices size.now) (eulerian_residues size.now) (λ m. IsEulerian (structure_of m) size.now) (SamplesEulerian size.now choices.now) choices.now sample) }
-    {
-        let last = choices.len() - 1;
-        let made = make(alloc, size, &choices[..last])?;
-        let closed = closed_anew(alloc, &made.tree, choices[last])?;
-        let mut residue = made.rest;
-        residue.push(u64::from(closed.old_plant))?;
-        Ok(Sample {
-            map: closed.map,
-            residue: NumList::of(residue),
-        })
-    }
 }
 
 /// The objects in preorder, and where in their arrangement they start.

@@ -17,7 +17,6 @@ use crate::made::Made;
 use crate::planting::plant;
 use crate::shape_reading::shape_and_ranks;
 use crate::unplanting::unplant;
-use pm_canon::canon;
 use pm_class::{MapClass, Sample};
 use pm_lehmer::{arrange, code};
 use pm_limits::MAX_EDGES;
@@ -77,12 +76,16 @@ impl MapClass for Quartic {
         Ok(map.edges() / 2)
     }
 
-    fn sample_valid(alloc: Global, size: &u32, choices: &[u64]) -> Result<Sample, AllocError> {
-        let unnamed = Quartic::sample_unnamed(alloc, size, choices)?;
-        let map = canon(alloc, &unnamed.map)?;
+    fn sample_unnamed(alloc: Global, size: &u32, choices: &[u64]) -> Result<Sample, AllocError> {
+        let last = choices.len() - 1;
+        let made = make(alloc, *size, &choices[..last])?;
+        let closed = closed_anew(alloc, &made.tree, choices[last])?;
+        let mut residue = Vec::new(alloc);
+        residue.push(u64::from(closed.old_plant))?;
+        residue.extend_from_slice(&made.rest)?;
         Ok(Sample {
-            map,
-            residue: unnamed.residue,
+            map: closed.map,
+            residue: NumList::of(residue),
         })
     }
 
@@ -101,31 +104,6 @@ impl MapClass for Quartic {
     }
 
     fn is_one_to_one() {}
-}
-
-impl Quartic {
-    /// The map and the residue of choices that are valid for an admissible size, with any names of the darts: the canonical
-    /// map of that map is the one that `sample` gives.
-    ///
-    /// # Errors
-    ///
-    /// `AllocError` where memory runs out.
-    pub fn sample_unnamed(alloc: Global, size: &u32, choices: &[u64]) -> Result<Sample, AllocError>
-        requires size { IsQuarticSize size.now }
-        requires valid { IsValidList choices.now (quartic_choices size.now) }
-        ensures { IfOk result (λ sample. IsSampledUnnamed (quartic_choices size.now) (quartic_residues size.now) (λ m. IsQuartic (structure_of m) size.now) (SamplesQuartic size.now choices.now) choices.now sample) }
-    {
-        let last = choices.len() - 1;
-        let made = make(alloc, *size, &choices[..last])?;
-        let closed = closed_anew(alloc, &made.tree, choices[last])?;
-        let mut residue = Vec::new(alloc);
-        residue.push(u64::from(closed.old_plant))?;
-        residue.extend_from_slice(&made.rest)?;
-        Ok(Sample {
-            map: closed.map,
-            residue: NumList::of(residue),
-        })
-    }
 }
 
 /// The bounds of the choices: a growth, a bud pattern for each fork, and one of the two free leaves.

@@ -17,7 +17,7 @@ use Rattle.pm_map.proofs.SameMaps.{same_as_itself}
 use Rattle.pm_class.specs.Behind.{IsSameAsImage, AreExchanged, SamplesBehind, AreChoicesOf}
 use Rattle.pm_class.specs.ClassLaws.{IsKeptByRenumbering, AreLimits, HasMostEdges}
 use Rattle.pm_class.specs.OneToOne.{AreOfClass, AreOneToOne}
-use Rattle.pm_class.specs.Sampling.{IsSampled, IsSizeWhereAnswered, HasOneAnswer, HasSomeAnswer}
+use Rattle.pm_class.specs.Sampling.{IsSampled, IsSampledUnnamed, IsSizeWhereAnswered, HasOneAnswer, HasSomeAnswer}
 use Rattle.pm_class.specs.Unsampling.{IsUnsampled}
 use Rattle.pm_class.specs.declared.sample.Sample.{Sample}
 use Rattle.pm_class.proofs.ExchangedLemmas.{unsampled_by_choices}
@@ -153,8 +153,8 @@ general_most_edges = record {
 }
 
 -- what is sampled behind a size from 1 on
-pub sampled_general : (n : ℕ) (choices : List ℕ) → 0 < n → (sample : Sample) → IsSampled (quartic_choices n) (quartic_residues n) (λ m. IsGeneral (structure_of m) n) (SamplesBehind IsMedialOf (SamplesQuartic n) choices) choices sample
-    → IsSampled (quartic_choices n) (quartic_residues n) (λ m. IsGeneral (structure_of m) n) (SamplesGeneral n choices) choices sample
+pub sampled_general : (n : ℕ) (choices : List ℕ) → 0 < n → (sample : Sample) → IsSampledUnnamed (quartic_choices n) (quartic_residues n) (λ m. IsGeneral (structure_of m) n) (SamplesBehind IsMedialOf (SamplesQuartic n) choices) choices sample
+    → IsSampledUnnamed (quartic_choices n) (quartic_residues n) (λ m. IsGeneral (structure_of m) n) (SamplesGeneral n choices) choices sample
 sampled_general zero choices some sample s = absurd (omega (arith, some))
 sampled_general (suc n) choices some sample s = s
 

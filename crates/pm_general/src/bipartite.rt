@@ -8,7 +8,8 @@ ghost use Rattle.pm_euler.specs.Bounds.{eulerian_choices, eulerian_residues};
 ghost use Rattle.pm_general.specs.Bipartite.{IsBipartiteAnswer, IsDualStructure, SamplesBipartite};
 
 use pm_class::{
-    MapClass, Sample, SampledThrough, sample_through, through_is_one_to_one, unsample_through,
+    MapClass, Sample, SampledThrough, sample_unnamed_through, through_is_one_to_one,
+    unsample_through,
 };
 use pm_euler::Eulerian;
 use pm_limits::MAX_EDGES;
@@ -28,10 +29,6 @@ impl SampledThrough for Bipartite {
     ghost image = { IsDualStructure };
 
     ghost contains = { λ pairs m. IsBipartite (structure_of m) pairs };
-
-    fn sample_behind(alloc: Global, size: &Profile, choices: &[u64]) -> Result<Sample, AllocError> {
-        Eulerian::sample_unnamed(alloc, size, choices)
-    }
 
     fn map_of(alloc: Global, _size: &Profile, behind: &RootedMap) -> Result<RootedMap, AllocError> {
         // Its contract says that the map is a rooted one.
@@ -89,8 +86,12 @@ impl MapClass for Bipartite {
         }
     }
 
-    fn sample_valid(alloc: Global, size: &Profile, choices: &[u64]) -> Result<Sample, AllocError> {
-        sample_through::<Bipartite>(alloc, size, choices)
+    fn sample_unnamed(
+        alloc: Global,
+        size: &Profile,
+        choices: &[u64],
+    ) -> Result<Sample, AllocError> {
+        sample_unnamed_through::<Bipartite>(alloc, size, choices)
     }
 
     fn unsample_valid(

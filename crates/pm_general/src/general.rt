@@ -9,7 +9,8 @@ ghost use Rattle.pm_euler.specs.Bounds.{quartic_choices, quartic_residues};
 ghost use Rattle.pm_general.specs.General.{IsGeneralAnswer, IsGeneralSize, SamplesGeneral, SamplesNothing, nothing};
 
 use pm_class::{
-    MapClass, Sample, SampledThrough, sample_through, through_is_one_to_one, unsample_through,
+    MapClass, Sample, SampledThrough, sample_unnamed_through, through_is_one_to_one,
+    unsample_through,
 };
 use pm_euler::Quartic;
 use pm_limits::MAX_EDGES;
@@ -29,10 +30,6 @@ impl SampledThrough for General {
     ghost image = { IsMedialOf };
 
     ghost contains = { λ n m. IsGeneral (structure_of m) n };
-
-    fn sample_behind(alloc: Global, size: &u32, choices: &[u64]) -> Result<Sample, AllocError> {
-        Quartic::sample_unnamed(alloc, size, choices)
-    }
 
     fn map_of(alloc: Global, _size: &u32, behind: &RootedMap) -> Result<RootedMap, AllocError> {
         // Its contract says that the map is a rooted one.
@@ -99,13 +96,13 @@ impl MapClass for General {
         Ok(edges)
     }
 
-    fn sample_valid(alloc: Global, size: &u32, choices: &[u64]) -> Result<Sample, AllocError> {
+    fn sample_unnamed(alloc: Global, size: &u32, choices: &[u64]) -> Result<Sample, AllocError> {
         if *size == 0 {
             let map = RootedMap::from_rooted_rotation(Vec::new(alloc), 0);
             let residue = NumList::of(vec![in alloc; choices[0], 0]?);
             return Ok(Sample { map, residue });
         }
-        sample_through::<General>(alloc, size, choices)
+        sample_unnamed_through::<General>(alloc, size, choices)
     }
 
     fn unsample_valid(

@@ -1,11 +1,16 @@
 use Rattle.std.proofs.Common.{List, ℕ, ◌++◌, ap, ◌∙◌, subst}
+use Rattle.pm_class.specs.Sampling.{IsSampledUnnamed}
 use Rattle.pm_cli.proofs.Records.{record_made}
+use Rattle.pm_cli.proofs.UnnamedTexts.{unnamed_text}
 use Rattle.pm_cli.proofs.draw.draw_record.Goals as goal
 
 pub returns-clause-record : goal.returns-clause-record
 returns-clause-record g c =
-    record_made (g.C.MapClass.samples c.args.size.now) _ c.in_ok-choices.choices c.in_ok-sample.sample.map c.in_ok-sample.sample.residue c.new-text.result.items c.put_list.new.text.items
-    c.in_ok-sample_text.field-0.items c.extend_from_slice.new.self.items c.in_ok-choices.ensures.drawn
-    (subst (λ (list : List ℕ). g.C.MapClass.samples c.args.size.now list c.in_ok-sample.sample.map c.in_ok-sample.sample.residue) c.values.ensures c.in_ok-sample.ensures.given)
-    c.in_ok-put_list.ensures.read_again c.in_ok-sample_text.ensures c.new-text.ensures.items c.in_ok-put_list.ensures.text
+    let samples = g.C.MapClass.samples c.args.size.now in
+    let sampled = subst (λ (list : List ℕ). IsSampledUnnamed (g.C.MapClass.choice_limits c.args.size.now) (g.C.MapClass.residue_limits c.args.size.now) (g.C.MapClass.has c.args.size.now) (samples list) list c.in_ok-sample.sample)
+    c.values.ensures c.in_ok-sample.ensures in
+    record_made samples _ c.in_ok-choices.choices c.new-text.result.items c.put_list.new.text.items
+    c.in_ok-sample_text.field-0.items c.extend_from_slice.new.self.items c.in_ok-choices.ensures.drawn c.in_ok-put_list.ensures.read_again
+    (unnamed_text (g.C.MapClass.choice_limits c.args.size.now) (g.C.MapClass.residue_limits c.args.size.now) (g.C.MapClass.has c.args.size.now) samples c.in_ok-choices.choices c.in_ok-sample.sample c.in_ok-sample_text.field-0.items sampled c.in_ok-sample_text.ensures)
+    c.new-text.ensures.items c.in_ok-put_list.ensures.text
     (c.in_ok-extend_from_slice.ensures.items ∙ ap (λ (t : List ℕ). c.put_list.new.text.items ++ t) c.deref.ensures.value)

@@ -1,7 +1,7 @@
 use Rattle.std.proofs.Common.{ℕ, ◌∷◌, ◌++◌, [], List, ap₂, ◌∙◌}
 use Rattle.pm_euler.proofs.QuarticClass.{quartic_class}
 use Rattle.pm_euler.proofs.TreeSamples.{unnamed_sampled}
-use Rattle.pm_euler.proofs.quartic.Quartic.sample_unnamed.Goals as goal
+use Rattle.pm_euler.proofs.quartic.QuarticMapClass.sample_unnamed.Goals as goal
 
 pub returns : goal.returns
 returns c =

@@ -1,7 +1,7 @@
 use Rattle.std.proofs.Common.{ℕ, ◌∷◌, ◌++◌, [], ap, ◌∙◌}
 use Rattle.pm_euler.proofs.EulerianClass.{eulerian_class}
 use Rattle.pm_euler.proofs.TreeSamples.{unnamed_sampled}
-use Rattle.pm_euler.proofs.eulerian.Eulerian.sample_unnamed.Goals as goal
+use Rattle.pm_euler.proofs.eulerian.EulerianMapClass.sample_unnamed.Goals as goal
 
 pub returns : goal.returns
 returns c =

@@ -1,5 +1,0 @@
-use Rattle.pm_class.proofs.ExchangedLemmas.{named_is_sampled}
-use Rattle.pm_euler.proofs.eulerian.EulerianMapClass.sample_valid.Goals as goal
-
-pub returns : goal.returns
-returns c = named_is_sampled _ _ _ _ c.args.choices.now c.in_ok-unnamed.unnamed c.in_ok-map.map c.in_ok-unnamed.ensures c.in_ok-map.ensures
