@@ -2,6 +2,7 @@ pub mod BothNested
 mod Checks
 pub mod Contained
 pub mod Counts
+pub mod Exchanged
 pub mod ConnectedEuler
 pub mod EvenCounts
 pub mod Fences
@@ -14,14 +15,14 @@ pub mod LeaderMaps
 mod LeadersWritten
 pub mod LeastCases
 pub mod LeastLemmas
-mod Merged
+pub mod Merged
 pub mod Nested
 pub mod PairCounts
 pub mod PartMaps
 pub mod PartPairs
 mod Parted
 pub mod Permutations
-mod PlacesWritten
+pub mod PlacesWritten
 pub mod Renumbered
 pub mod Repeats
 pub mod SameCycle

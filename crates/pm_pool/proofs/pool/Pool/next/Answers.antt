@@ -1,0 +1,5 @@
+use Rattle.pm_pool.proofs.Regions.{next-live}
+use Rattle.pm_pool.proofs.pool.Pool.next.Goals as goal
+
+pub returns-clause-live : goal.returns-clause-live
+returns-clause-live c = next-live _ _ _ _ c.self.view_is c.self.invariant.region c.requires c.index.ensures
