@@ -1,6 +1,6 @@
 -- Regions of darts: a store in which some darts are live. Live darts have a rotation around their vertices, its inverse and
 -- twins; a dart that isn't live stands alone (Edmonds 1960, Tutte 1963: maps as rotations).
-use Rattle.std.specs.Prelude.{◌≡◌, ◌≢◌, ℕ, ◌<◌, ◌^◌, Bool, false, true, IsTrue, List, length, set, slice_index, slice_index_or}
+use Rattle.std.specs.Prelude.{◌≡◌, ◌≢◌, ℕ, ◌+◌, ◌<◌, ◌^◌, Bool, false, true, IsTrue, List, length, set, slice_index, slice_index_or}
 use Rattle.pm_perm.specs.Count.{count_below}
 use Rattle.pm_perm.specs.Lists.{IsInverseList}
 use Rattle.pm_perm.specs.Pairs.{IsInvolutionBelow}
@@ -53,6 +53,8 @@ pub record IsTaken (before after : Region) (d : ℕ) : Type 0 where
   pub within : d < room before
   pub was_dead : is_live before d ≡ false
   pub is_now : after ≡ with_live before d true
+  pub same_room : room after ≡ room before
+  pub one_more : live_darts after ≡ live_darts before + 1
   pub alone : IsAlone after d
 
 -- The dart d, which was alone, stands directly after `at` around the vertex of `at`, and all else is as it was.

@@ -3,8 +3,10 @@
 
 mod links;
 mod pool;
+mod room;
 
 pub use pool::{Dart, Pool};
+pub use room::{Room, Work};
 
 #[cfg(test)]
 mod tests;
