@@ -28,6 +28,7 @@ PROFILE_NODES = [1_000, 10_000, 100_000, 300_000]
 PROFILE_DEGREES = [[4], [2, 4, 6]]
 DRAWINGS = [(10, 1_000), (100, 1_000), (1_000, 1_000), (10_000, 100), (100_000, 10), (1_000_000, 1)]
 DRAW_SEED = 1
+CENSUSES = [(3, 6_480), (4, 272_160)]
 CLASSES = ["quartic", "eulerian", "general", "bipartite"]
 
 
@@ -149,19 +150,29 @@ class Case:
         return source, right
 
 
-class Drawing(Case):
-    """Some records of maps with so many vertices, drawn by one command that reads nothing."""
+class Unread(Case):
+    """One command that reads nothing, and how many things it makes: a case whose size and rate are in these."""
 
-    def __init__(self, nodes, records):
-        super().__init__(f"{nodes:,}", 2 * nodes * records, [])
-        self.records = records
-        self.words = ["draw", "quartic", str(nodes), str(DRAW_SEED), str(records)]
+    def __init__(self, label, edges, count, words):
+        super().__init__(label, edges, [])
+        self.count = count
+        self.words = words
 
     def size(self):
-        return f"{self.records:,}"
+        return f"{self.count:,}"
 
     def rate(self, seconds):
-        return f"{self.records / seconds:,.1f}"
+        return f"{self.count / seconds:,.1f}"
+
+
+def drawing(nodes, records):
+    """So many records of quartic maps with so many vertices."""
+    return Unread(f"{nodes:,}", 2 * nodes * records, records, ["draw", "quartic", str(nodes), str(DRAW_SEED), str(records)])
+
+
+def census(edges, lists):
+    """The census of the general maps with so many edges, which have so many lists of choices."""
+    return Unread(f"{edges:,}", edges * lists, lists, ["census", "general", str(edges)])
 
 
 def answer_once(programs, words, source, answers):
@@ -272,9 +283,13 @@ def main():
     floor, right = start_up(programs)
     for title, words_of, cases in tables(programs[0][1]):
         right = answer_table(programs, folder, title, words_of, cases, floor) and right
-    drawings = [Drawing(nodes, records) for nodes, records in DRAWINGS]
-    title, sizes, rates = "Drawings, `draw quartic`", "records", "records per second"
-    right = answer_table(programs, folder, title, lambda case: case.words, drawings, floor, sizes, rates) and right
+    counted = [
+        ("Drawings, `draw quartic`", "records", [drawing(nodes, records) for nodes, records in DRAWINGS]),
+        ("Censuses, `census general`", "lists", [census(edges, lists) for edges, lists in CENSUSES]),
+    ]
+    for title, things, cases in counted:
+        rates = f"{things} per second"
+        right = answer_table(programs, folder, title, lambda case: case.words, cases, floor, things, rates) and right
     if right:
         same = ", and both programs printed the same." if len(programs) == 2 else "."
         print("Each run ended with the right status" + same)

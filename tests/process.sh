@@ -84,6 +84,11 @@ row 'a closed input of a command that reads nothing' 0 $'trip ok 52 100 50\n' ''
 "$program" draw quartic 1 7 2 >&- 2>"$folder/err"
 ended=$?
 row 'a closed output' 8 '' $'planarmap: write\n'
+"$program" census quartic 1 <&- >"$folder/out" 2>"$folder/err"
+ended=$?
+row 'a census, which reads nothing' 0 $'map 2 0\nv 0 2 3 1\nend\nlists 6\nmap 2 0\nv 0 1 2 3\nend\nlists 6\ntotal 2 12\n' ''
+on '' census general 5
+row 'a census of too many lists' 7 '' $'planarmap: limit lists\n'
 if [ -c /dev/full ]; then
     "$program" draw quartic 1 7 2 >/dev/full 2>"$folder/err"
     ended=$?

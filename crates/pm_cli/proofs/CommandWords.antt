@@ -9,7 +9,7 @@ use Rattle.pm_cli.specs.declared.command.Command.{Command}
 use Rattle.pm_cli.specs.declared.command.Command.TheVariants.{Reads, Makes}
 use Rattle.pm_cli.specs.declared.command.MapTask.{MapTask}
 use Rattle.pm_cli.specs.declared.command.Reader.TheVariants.{CloseEulerian, OpenEulerian, OfMap, Check, Unsample, Sample}
-use Rattle.pm_cli.specs.declared.command.Maker.TheVariants.{Draw, Trip}
+use Rattle.pm_cli.specs.declared.command.Maker.TheVariants.{Draw, Trip, Census}
 use Rattle.pm_cli.specs.declared.command.Verb.{Verb}
 use Rattle.pm_cli.specs.declared.command.Verb.TheVariants as verb
 use Rattle.pm_cli.specs.Classes.{class_of, class_word, size_word}
@@ -40,6 +40,7 @@ stands_behind (Makes (Draw seed count) size) is =
     record { size = size; admissible = is.1; rest = decimal seed ∷ decimal count ∷ []; numbers = record { seed = seed; count = count; numbers = is.0; are = refl }; are = refl }
 stands_behind (Makes (Trip seed) size) is =
     record { size = size; admissible = is.1; rest = decimal seed ∷ []; numbers = record { word = decimal seed; is = (seed, (is.0, refl)); alone = refl }; are = refl }
+stands_behind (Makes Census size) is = record { size = size; admissible = is.1; are = refl }
 
 -- and what stands behind a verb is some command
 some_command : (v : Verb) (words : List (List ℕ)) → AreBehind v words → (command : Command) × IsBehind v words command
@@ -66,6 +67,7 @@ some_command verb.Trip words is =
         same = is.are ∙ ap (λ (rest : List (List ℕ)). class_word (class_of is.size) ∷ size_word is.size ∷ rest) (n.alone ∙ ap (λ (w : List ℕ). w ∷ []) seed.1.1);
       },
     )
+some_command verb.Census words is = (Makes Census is.size, record { is_command = (tt, is.admissible); is_verb = refl; same = is.are })
 
 -- words are no command, where a command begins with the first k of them and none with one more
 stops_at : (words : List (List ℕ)) (k : ℕ) → Begins words k → ((command : Command) → IsCommand command → take (suc k) words ≡ take (suc k) (spelling command) → ⊥) → IsNoCommand words k
@@ -115,6 +117,7 @@ data IsOfVerb : Verb → Command → Type 0 where
   samples : (size : Size) → IsOfVerb verb.Sample (Reads (Sample size))
   draws : (seed count : ℕ) (size : Size) → IsOfVerb verb.Draw (Makes (Draw seed count) size)
   trips : (seed : ℕ) (size : Size) → IsOfVerb verb.Trip (Makes (Trip seed) size)
+  counts : (size : Size) → IsOfVerb verb.Census (Makes Census size)
 
 is_of_verb : (command : Command) → IsOfVerb (verb_of command) command
 is_of_verb (Reads CloseEulerian) = closes
@@ -125,6 +128,7 @@ is_of_verb (Reads (Unsample class)) = unsamples class
 is_of_verb (Reads (Sample size)) = samples size
 is_of_verb (Makes (Draw seed count) size) = draws seed count size
 is_of_verb (Makes (Trip seed) size) = trips seed size
+is_of_verb (Makes Census size) = counts size
 
 one_drawing : {s t : Size} {a b c d : ℕ} → s ≡ t → a ≡ b → c ≡ d → Makes (Draw a c) s ≡ Makes (Draw b d) t
 one_drawing x y z = cc
@@ -148,6 +152,7 @@ one_of_verb _ _ _ (draws s c a) (draws t d b) x y e =
     (one_count x.0 y.0 (first_words (later_words rest)))
 one_of_verb _ _ _ (trips s a) (trips t b) x y e =
     one_trip (one_size a b x.1 y.1 (first_words e) (first_words (later_words e))) (decimal_injective s t x.0 y.0 (first_words (later_words (later_words e))))
+one_of_verb _ _ _ (counts a) (counts b) x y e = ap (λ (size : Size). Makes Census size) (one_size a b x.1 y.1 (first_words e) (first_words (later_words e)))
 
 -- words are those of one command
 pub one_command : (words : List (List ℕ)) (a b : Command) → Spells words a → Spells words b → a ≡ b

@@ -9,7 +9,7 @@ use Rattle.pm_cli.specs.declared.class.Size.{Size}
 use Rattle.pm_cli.specs.declared.command.Command.TheVariants.{Reads, Makes}
 use Rattle.pm_cli.specs.declared.command.Maker.{Maker}
 use Rattle.pm_cli.specs.declared.command.Reader.{Reader}
-use Rattle.pm_cli.specs.declared.refusal.Limit.TheVariants.{Bytes, Letters, Edges}
+use Rattle.pm_cli.specs.declared.refusal.Limit.TheVariants.{Bytes, Letters, Edges, Lists}
 use Rattle.pm_cli.specs.declared.refusal.Refusal.{Refusal}
 use Rattle.pm_cli.specs.declared.refusal.Refusal.TheVariants.{Usage, Text, Limited, Map, Tree, Invalid}
 use Rattle.pm_cli.specs.declared.refusal.Stop.{Stop}
@@ -44,6 +44,7 @@ ends_reading words reader left after old f g (Refused (Limited Bytes)) spells wh
     (too_long reader spells (why.over bytes (told words reader left bytes spells input)), refl)
 ends_reading words reader left after old f g (Refused (Limited (Letters letters))) spells why bytes input = absurd why
 ends_reading words reader left after old f g (Refused (Limited (Edges edges))) spells why bytes input = absurd why
+ends_reading words reader left after old f g (Refused (Limited Lists)) spells why bytes input = absurd why
 ends_reading words reader left after old f g (Refused (Usage matched)) spells why bytes input = absurd why
 ends_reading words reader left after old f g (Refused (Map rule)) spells why bytes input = absurd why
 ends_reading words reader left after old f g (Refused (Text line)) spells why bytes input = absurd why
@@ -125,7 +126,7 @@ told_no_read Memory told is no_read e = cc
 
 -- records that were made and written, or not all
 pub ends_making : (words : List (List ℕ)) (task : Maker) (size : Size) (left old new : Option (List ℕ)) (f g : ℕ) (end : Result (Unit {0}) Stop) → Spells words (Makes task size)
-    → IsWritingRecords (λ text. AnswersSize task (sized size) (Ok text)) (IsFirstRecords task (sized size)) old new f g end → Ends words left old new end
+    → IsWritingRecords (AnswersSize task (sized size)) (IsFirstRecords task (sized size)) old new f g end → Ends words left old new end
 ends_making words task size left old new f g (Ok done) spells made bytes input = record {
   text = made.0.text;
   answers = of_size task size spells (Ok made.0.text) made.0.holds;
@@ -154,7 +155,7 @@ ends_making words task size left old new f g (Err Memory) spells made bytes inpu
       })
     ]
 ends_making words task size left old new f g (Err Read) spells made bytes input = absurd made
-ends_making words task size left old new f g (Err (Refused refusal)) spells made bytes input = absurd made
+ends_making words task size left old new f g (Err (Refused refusal)) spells made bytes input = (of_size task size spells (Err refusal) made.0, made.1)
 
 -- want of memory is told as such
 pub told_memory : (stop told : Stop) → IsToldFor stop told → stop ≡ Memory → status_of_stop told ≡ 9

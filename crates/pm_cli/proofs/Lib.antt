@@ -1,4 +1,5 @@
 pub mod ByWords
+pub mod CensusRecords
 pub mod ChoicesLines
 pub mod ClassLaws
 pub mod CommandWords

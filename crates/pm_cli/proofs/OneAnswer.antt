@@ -6,7 +6,7 @@ use Rattle.pm_cli.specs.declared.class.Class.{Class}
 use Rattle.pm_cli.specs.declared.class.Size.{Size}
 use Rattle.pm_cli.specs.declared.command.Command.TheVariants.{Reads, Makes}
 use Rattle.pm_cli.specs.declared.command.Maker.{Maker}
-use Rattle.pm_cli.specs.declared.command.Maker.TheVariants.{Draw, Trip}
+use Rattle.pm_cli.specs.declared.command.Maker.TheVariants.{Draw, Trip, Census}
 use Rattle.pm_cli.specs.declared.command.Reader.{Reader}
 use Rattle.pm_cli.specs.declared.command.Reader.TheVariants.{CloseEulerian, OpenEulerian, OfMap, Check, Unsample, Sample}
 use Rattle.pm_cli.specs.declared.refusal.Refusal.{Refusal}
@@ -16,6 +16,7 @@ use Rattle.pm_cli.specs.Classes.{sampler_of, AtSize, sized, IsSize, InClass, cla
 use Rattle.pm_cli.specs.Commands.{IsReader}
 use Rattle.pm_cli.specs.Laws.{HasOneAnswer}
 use Rattle.pm_cli.specs.MapAnswers.{task_relation, opening}
+use Rattle.pm_cli.proofs.CensusRecords.{counts_once}
 use Rattle.pm_cli.proofs.ClassLaws.{AreSamplers, sized_laws, count_laws}
 use Rattle.pm_cli.proofs.CommandWords.{one_command}
 use Rattle.pm_cli.proofs.OneClosing.{closes_once}
@@ -50,6 +51,7 @@ module _ (laws : AreSamplers) where
   makes_once : (task : Maker) (size : Size) → IsSize size → (a b : Result (List ℕ) Refusal) → AnswersSize task (sized size) a → AnswersSize task (sized size) b → a ≡ b
   makes_once (Draw seed count) size is a b x y = let one = one_at size is in draws_once (sized size) one.one_sample (λ c m r h. let only = one.only c m r h in only.valid) seed count a b x y
   makes_once (Trip seed) size is a b x y = let one = one_at size is in trips_once (sized size) one.one_sample seed a b x y
+  makes_once Census size is a b x y = let at : AtSize = sized size in let one = one_at size is in counts_once at.choice_limits at.samples one.one_sample a b x y
 
   same_task : {t u : Maker} {r s : Size} → Makes t r ≡ Makes u s → t ≡ u
   same_task e = cc

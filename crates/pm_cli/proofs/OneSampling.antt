@@ -13,8 +13,8 @@ use Rattle.pm_map.specs.Rotation.{RotationSystem}
 use Rattle.pm_mapfile.specs.MapText.{IsMapText}
 use Rattle.pm_cli.specs.declared.refusal.Refusal.{Refusal}
 use Rattle.pm_cli.specs.declared.refusal.Refusal.TheVariants.{Text, Invalid}
-use Rattle.pm_draw.specs.Drawn.{generator_of, words_of}
-use Rattle.pm_cli.specs.Drawing.{Draws}
+use Rattle.pm_draw.specs.Drawn.{generator_of, words_of, drawn}
+use Rattle.pm_cli.specs.Drawing.{left_after, IsDrawnRecord, Draws}
 use Rattle.pm_class.specs.Sampling.{HasOneSample}
 use Rattle.pm_cli.specs.Classes.{AtSize}
 use Rattle.pm_cli.specs.MapAnswers.{counts_line}
@@ -23,6 +23,7 @@ use Rattle.pm_cli.specs.Trip.{first_drawn, Trips}
 use Rattle.pm_cli.proofs.ChoicesLines.{one_choices}
 use Rattle.pm_cli.proofs.OneText.{one_text}
 use Rattle.pm_cli.proofs.Records.{records_once}
+use Rattle.pm_cli.proofs.WholeDrawings.{one_record}
 
 -- a list is refused for one reason, and a valid one for none
 pub valid_or_refused : (values bounds : List ℕ) (refusal : ListRefusal) → IsValidList values bounds → IsRefusalOf values bounds refusal → ⊥
@@ -84,7 +85,9 @@ module _ (at : AtSize) (one : HasOneSample at.samples)
 
   -- and drawing has one
   pub draws_once : (seed count : ℕ) (a b : Result (List ℕ) Refusal) → Draws at.choice_limits at.samples seed count a → Draws at.choice_limits at.samples seed count b → a ≡ b
-  draws_once seed count (Ok text) (Ok other) x y = ap Ok (records_once at.choice_limits at.samples one_sample_text (words_of (generator_of seed)) count text other x y)
+  draws_once seed count (Ok text) (Ok other) x y = 
+      ap Ok (records_once (IsDrawnRecord at.choice_limits at.samples seed)
+      (λ place. one_record at.samples one_sample_text (drawn at.choice_limits (left_after at.choice_limits (words_of (generator_of seed)) place)).0) count text other x y)
   draws_once seed count (Ok text) (Err refusal) x y = absurd y
   draws_once seed count (Err refusal) b x y = absurd x
 

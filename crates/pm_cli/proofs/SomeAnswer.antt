@@ -8,7 +8,7 @@ use Rattle.pm_cli.specs.declared.class.Size.{Size}
 use Rattle.pm_cli.specs.declared.command.Command.{Command}
 use Rattle.pm_cli.specs.declared.command.Command.TheVariants.{Reads, Makes}
 use Rattle.pm_cli.specs.declared.command.Maker.{Maker}
-use Rattle.pm_cli.specs.declared.command.Maker.TheVariants.{Draw, Trip}
+use Rattle.pm_cli.specs.declared.command.Maker.TheVariants.{Draw, Trip, Census}
 use Rattle.pm_cli.specs.declared.command.Reader.{Reader}
 use Rattle.pm_cli.specs.declared.command.Reader.TheVariants.{CloseEulerian, OpenEulerian, OfMap, Check, Unsample, Sample}
 use Rattle.pm_cli.specs.declared.refusal.Limit.TheVariants.{Bytes}
@@ -18,6 +18,7 @@ use Rattle.pm_cli.specs.Classes.{sampler_of, sized, IsSize, class_at}
 use Rattle.pm_cli.specs.Commands.{IsReader, Spells, Begins, IsNoCommand}
 use Rattle.pm_cli.specs.Laws.{IsAnswered, HasSomeAnswer}
 use Rattle.pm_cli.specs.MapAnswers.{task_relation, opening}
+use Rattle.pm_cli.proofs.CensusRecords.{counts_answered}
 use Rattle.pm_cli.proofs.ClassLaws.{AreSamplers, sized_laws, most, count_laws}
 use Rattle.pm_cli.proofs.SomeClosing.{closes_answered}
 use Rattle.pm_cli.proofs.MapRelations.{map_answered}
@@ -43,6 +44,7 @@ module _ (laws : AreSamplers) where
   makes_answered : (task : Maker) (size : Size) → IsSize size → IsAnswered (AnswersSize task (sized size))
   makes_answered (Draw seed count) size is = draws_answered (sized size) (sized_laws laws size is) seed count
   makes_answered (Trip seed) size is = trips_answered (sized size) (sized_laws laws size is) seed
+  makes_answered Census size is = counts_answered (sized size) (sized_laws laws size is)
 
   command_answered : (words : List (List ℕ)) (bytes : List ℕ) (command : Command) → Spells words command → IsAnswered (Answers words bytes)
   command_answered words bytes (Reads reader) spells told = elim (cases_lt MAX_BYTES (length bytes)) [

@@ -16,13 +16,14 @@ use Rattle.pm_draw.specs.Drawn.{generator_of, words_of}
 use Rattle.pm_draw.proofs.ValidDraws.{generator_gives_words, drawn_is_valid}
 use Rattle.pm_cli.specs.declared.refusal.Refusal.TheVariants.{Text, Invalid}
 use Rattle.pm_cli.specs.Classes.{AtSize}
-use Rattle.pm_cli.specs.Drawing.{AreRecords, Draws}
+use Rattle.pm_cli.specs.Drawing.{Draws}
 use Rattle.pm_cli.specs.Laws.{IsAnswered}
 use Rattle.pm_cli.specs.MapAnswers.{counts_line}
+use Rattle.pm_cli.specs.Records.{AreRecords}
 use Rattle.pm_cli.specs.Sampling.{IsChoicesFile, IsSampleText, Samples, sampled, no_list, not_valid}
 use Rattle.pm_cli.specs.Trip.{first_drawn, Trips}
 use Rattle.pm_cli.specs.steps.ClassLaws.{IsAtSize}
-use Rattle.pm_cli.proofs.WholeDrawings.{records_go_on}
+use Rattle.pm_cli.proofs.WholeDrawings.{drawn_records_go_on}
 
 -- a list is valid, or refused for some reason
 pub valid_or_refusal : (values bounds : List ℕ) → (IsValidList values bounds → ⊥) → ((refusal : ListRefusal) → IsRefusalOf values bounds refusal → ⊥) → ⊥
@@ -62,7 +63,7 @@ module _ (at : AtSize) (laws : IsAtSize at) where
   unfolding AreRecords
   draws_answered seed count told =
       let limits = laws.limits in
-      let drawing = records_go_on at.choice_limits at.residue_limits at.has at.samples (each_is_sampled at.choice_limits at.residue_limits at.has at.samples laws.one_to_one) limits.choice_bounds limits.choices_fit
+      let drawing = drawn_records_go_on at.choice_limits at.residue_limits at.has at.samples (each_is_sampled at.choice_limits at.residue_limits at.has at.samples laws.one_to_one) limits.choice_bounds limits.choices_fit
       seed 0 count [] (omega arith) refl in
       told (Ok drawing.0) drawing.1
 

@@ -50,7 +50,7 @@ use Rattle.pm_cli.proofs.WordTables.{looked_up, one_value}
 abbrev verbs : List (List ℕ × Verb)
 verbs =
     (codes "close", verb.Close) ∷ (codes "open", verb.Open) ∷ (codes "check", verb.Check) ∷ (codes "sample", verb.Sample) ∷ (codes "unsample", verb.Unsample) ∷ (codes "draw", verb.Draw)
-    ∷ (codes "trip", verb.Trip)
+    ∷ (codes "trip", verb.Trip) ∷ (codes "census", verb.Census)
     ∷ (codes "canon", verb.OfMap Canon) ∷ (codes "medial", verb.OfMap Medial) ∷ (codes "unmedial", verb.OfMap Unmedial) ∷ (codes "dual", verb.OfMap Dual) ∷ (codes "layers", verb.OfMap Layers) ∷ []
 
 verb_found : (v : Verb) → looked_up verbs (verb_word v) ≡ Some v
@@ -61,6 +61,7 @@ verb_found verb.Sample = refl
 verb_found verb.Unsample = refl
 verb_found verb.Draw = refl
 verb_found verb.Trip = refl
+verb_found verb.Census = refl
 verb_found (verb.OfMap Canon) = refl
 verb_found (verb.OfMap Medial) = refl
 verb_found (verb.OfMap Unmedial) = refl

@@ -4,7 +4,7 @@ use Rattle.pm_io.specs.declared.TheConstants.{MAX_BYTES}
 use Rattle.pm_cli.specs.declared.class.Size.{Size}
 use Rattle.pm_cli.specs.declared.command.Command.TheVariants.{Reads, Makes}
 use Rattle.pm_cli.specs.declared.command.Maker.{Maker}
-use Rattle.pm_cli.specs.declared.command.Maker.TheVariants.{Draw, Trip}
+use Rattle.pm_cli.specs.declared.command.Maker.TheVariants.{Draw, Trip, Census}
 use Rattle.pm_cli.specs.declared.command.Reader.{Reader}
 use Rattle.pm_cli.specs.declared.command.Reader.TheVariants.{CloseEulerian, OpenEulerian, OfMap, Check, Unsample, Sample}
 use Rattle.pm_cli.specs.declared.refusal.Limit.TheVariants.{Bytes}
@@ -13,6 +13,7 @@ use Rattle.pm_cli.specs.declared.refusal.Refusal.TheVariants.{Usage, Limited}
 use Rattle.pm_cli.specs.Classes.{AtSize, sized, InClass, class_at}
 use Rattle.pm_cli.specs.Closing.{ClosesEulerian}
 use Rattle.pm_cli.specs.Commands.{Spells, IsNoCommand}
+use Rattle.pm_cli.specs.Counting.{Counts}
 use Rattle.pm_cli.specs.Drawing.{Draws}
 use Rattle.pm_cli.specs.MapAnswers.{AnswersMap, task_relation, opening}
 use Rattle.pm_cli.specs.Sampling.{Samples}
@@ -32,6 +33,7 @@ AnswersReader (Sample size) bytes answer = Samples (sized size) bytes answer
 abbrev pub AnswersSize : Maker → AtSize → Result (List ℕ) Refusal → Type 0
 AnswersSize (Draw seed count) at answer = Draws at.choice_limits at.samples seed count answer
 AnswersSize (Trip seed) at answer = Trips at.choice_limits at.samples seed answer
+AnswersSize Census at answer = Counts at.choice_limits at.samples answer
 
 -- the answer, by the first rule that applies
 pub data Answers (words : List (List ℕ)) (bytes : List ℕ) : Result (List ℕ) Refusal → Type 0 where

@@ -7,7 +7,7 @@ use Rattle.pm_cli.specs.declared.command.Reader.{Reader}
 use Rattle.pm_cli.specs.declared.command.Reader.TheVariants.{CloseEulerian, OpenEulerian, OfMap, Check, Unsample, Sample}
 use Rattle.pm_cli.specs.declared.command.MapTask.TheVariants.{Canon, Medial, Unmedial, Dual, Layers}
 use Rattle.pm_cli.specs.declared.command.Maker.{Maker}
-use Rattle.pm_cli.specs.declared.command.Maker.TheVariants.{Draw, Trip}
+use Rattle.pm_cli.specs.declared.command.Maker.TheVariants.{Draw, Trip, Census}
 use Rattle.pm_cli.specs.declared.words.TheConstants.{MAX_RECORDS}
 use Rattle.pm_cli.specs.declared.command.Verb.{Verb}
 use Rattle.pm_cli.specs.declared.command.Verb.TheVariants as verb
@@ -26,6 +26,7 @@ verb_word verb.Sample = codes "sample"
 verb_word verb.Unsample = codes "unsample"
 verb_word verb.Draw = codes "draw"
 verb_word verb.Trip = codes "trip"
+verb_word verb.Census = codes "census"
 
 -- a class and a size of it, and then other words
 abbrev pub size_words : Size → List (List ℕ) → List (List ℕ)
@@ -45,6 +46,7 @@ verb_of (Reads (Unsample class)) = verb.Unsample
 verb_of (Reads (Sample size)) = verb.Sample
 verb_of (Makes (Draw seed count) size) = verb.Draw
 verb_of (Makes (Trip seed) size) = verb.Trip
+verb_of (Makes Census size) = verb.Census
 
 abbrev pub behind : Command → List (List ℕ)
 behind (Reads CloseEulerian) = codes "eulerian" ∷ []
@@ -55,6 +57,7 @@ behind (Reads (Unsample class)) = class_word class ∷ []
 behind (Reads (Sample size)) = size_words size []
 behind (Makes (Draw seed count) size) = size_words size (number_words seed count)
 behind (Makes (Trip seed) size) = size_words size (decimal seed ∷ [])
+behind (Makes Census size) = size_words size []
 
 -- the words of a command
 abbrev pub spelling : Command → List (List ℕ)
@@ -78,6 +81,7 @@ IsReader (Unsample class) = ⊤
 abbrev pub IsMaker : Maker → Type 0
 IsMaker (Draw seed count) = AreDrawNumbers seed count
 IsMaker (Trip seed) = seed < 2 ^ 64
+IsMaker Census = ⊤
 
 abbrev pub IsCommand : Command → Type 0
 IsCommand (Reads reader) = IsReader reader

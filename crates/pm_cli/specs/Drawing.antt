@@ -1,9 +1,10 @@
--- What the commands that draw answer: records of choices, map and residue.
-use Rattle.std.specs.Prelude.{◌≡◌, ℕ, zero, suc, ◌≤◌, List, [], ◌++◌, Result, Ok, Err}
+-- What `draw` answers: records of choices, map and residue.
+use Rattle.std.specs.Prelude.{◌≡◌, ℕ, zero, suc, List, ◌++◌, Result, Ok, Err}
 use Rattle.rand_core.specs.Stream.{Stream}
 use Rattle.pm_draw.specs.Drawn.{generator_of, words_of, drawn}
 use Rattle.pm_map.specs.Rotation.{RotationSystem}
 use Rattle.pm_cli.specs.declared.refusal.Refusal.{Refusal}
+use Rattle.pm_cli.specs.Records.{AreRecords}
 use Rattle.pm_cli.specs.Sampling.{IsChoicesLine, IsSampleText}
 
 -- the record of the choices: the choices file that spells them, and then the text of the map and the residue that they
@@ -20,35 +21,13 @@ unfoldable pub left_after : List ℕ → Stream → ℕ → Stream
 left_after bounds stream zero = stream
 left_after bounds stream (suc count) = (drawn bounds (left_after bounds stream count)).1
 
--- a text of the one kind, and after it one of the other
-pub record IsJoined (first last : List ℕ → Type 0) (text : List ℕ) : Type 0 where
-  pub front : List ℕ
-  pub is_front : first front
-  pub back : List ℕ
-  pub is_back : last back
-  pub whole : text ≡ front ++ back
+-- the record of the list that is drawn from the seed at this place, counted from 0
+abbrev pub IsDrawnRecord : List ℕ → (List ℕ → RotationSystem → List ℕ → Type 0) → ℕ → ℕ → List ℕ → Type 0
+IsDrawnRecord bounds samples seed place text = IsRecord samples (drawn bounds (left_after bounds (words_of (generator_of seed)) place)).0 text
 
--- so many records, one after another, of the lists that are drawn from the stream in turn
-unfoldable pub AreRecords : List ℕ → (List ℕ → RotationSystem → List ℕ → Type 0) → Stream → ℕ → List ℕ → Type 0
-AreRecords bounds samples stream zero text = text ≡ []
-AreRecords bounds samples stream (suc count) text =
-    IsJoined (AreRecords bounds samples stream count) (IsRecord samples (drawn bounds (left_after bounds stream count)).0) text
-
--- so many records of the lists that are drawn from the seed
+-- so many records of the lists that are drawn from the seed in turn
 abbrev pub IsDrawing : List ℕ → (List ℕ → RotationSystem → List ℕ → Type 0) → ℕ → ℕ → List ℕ → Type 0
-IsDrawing bounds samples seed count text = AreRecords bounds samples (words_of (generator_of seed)) count text
-
--- the first of so many records, any number of them
-pub record HasFirstRecords (bounds : List ℕ) (samples : List ℕ → RotationSystem → List ℕ → Type 0) (seed count : ℕ) (text : List ℕ) : Type 0 where
-  pub records : ℕ
-  pub within : records ≤ count
-  pub is_drawing : IsDrawing bounds samples seed records text
-
--- a law: first records are a front of more of them, since each list that is drawn has a record
-abbrev pub RecordsGoOn : List ℕ → (List ℕ → RotationSystem → List ℕ → Type 0) → Type 0
-RecordsGoOn bounds samples =
-    (seed fewer more : ℕ) (text : List ℕ) → fewer ≤ more → IsDrawing bounds samples seed fewer text
-    → (rest : List ℕ) × IsDrawing bounds samples seed more (text ++ rest)
+IsDrawing bounds samples seed count text = AreRecords (IsDrawnRecord bounds samples seed) count text
 
 -- the answer: so many records
 abbrev pub Draws : List ℕ → (List ℕ → RotationSystem → List ℕ → Type 0) → ℕ → ℕ → Result (List ℕ) Refusal → Type 0

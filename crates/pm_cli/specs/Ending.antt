@@ -5,15 +5,17 @@ use Rattle.pm_io.specs.Faults.{FaultsRose}
 use Rattle.pm_cli.specs.declared.class.Size.{Size}
 use Rattle.pm_cli.specs.declared.command.Command.TheVariants.{Reads, Makes}
 use Rattle.pm_cli.specs.declared.command.Maker.{Maker}
-use Rattle.pm_cli.specs.declared.command.Maker.TheVariants.{Draw, Trip}
+use Rattle.pm_cli.specs.declared.command.Maker.TheVariants.{Draw, Trip, Census}
 use Rattle.pm_cli.specs.declared.command.Reader.{Reader}
 use Rattle.pm_cli.specs.declared.refusal.Stop.{Stop}
 use Rattle.pm_cli.specs.declared.refusal.Stop.TheVariants.{Refused, Read, Write, Memory}
 use Rattle.pm_cli.specs.Answer.{Answers}
 use Rattle.pm_cli.specs.Classes.{AtSize, sized}
 use Rattle.pm_cli.specs.Commands.{Spells}
-use Rattle.pm_cli.specs.Drawing.{HasFirstRecords}
+use Rattle.pm_cli.specs.Counting.{HasFirstEntries}
+use Rattle.pm_cli.specs.Drawing.{IsDrawnRecord}
 use Rattle.pm_cli.specs.Lines.{line_of}
+use Rattle.pm_cli.specs.Records.{HasFirstRecords}
 
 -- the words are no command that reads
 abbrev pub ReadNothing : List (List ℕ) → Type 0
@@ -23,14 +25,16 @@ ReadNothing words = (reader : Reader) → Spells words (Reads reader) → ⊥
 abbrev pub ReadInput : List (List ℕ) → Type 0
 ReadInput words = (task : Maker) (size : Size) → Spells words (Makes task size) → ⊥
 
--- the words are no command that writes its answer record by record
-abbrev pub WriteWhole : List (List ℕ) → Type 0
-WriteWhole words = (seed count : ℕ) (size : Size) → Spells words (Makes (Draw seed count) size) → ⊥
-
 -- the first records of a task that writes its answer record by record, which `trip` doesn't
 abbrev pub IsFirstRecords : Maker → AtSize → List ℕ → Type 0
-IsFirstRecords (Draw seed count) at text = HasFirstRecords at.choice_limits at.samples seed count text
+IsFirstRecords (Draw seed count) at text = HasFirstRecords (IsDrawnRecord at.choice_limits at.samples seed) count text
 IsFirstRecords (Trip seed) at text = ⊥
+IsFirstRecords Census at text = HasFirstEntries at.choice_limits at.samples text
+
+-- the words are no command that writes its answer record by record
+pub record WriteWhole (words : List (List ℕ)) : Type 0 where
+  pub no_drawing : (seed count : ℕ) (size : Size) → Spells words (Makes (Draw seed count) size) → ⊥
+  pub no_census : (size : Size) → Spells words (Makes Census size) → ⊥
 
 -- the input holds these bytes, where it tells them; where the words read nothing, any bytes serve
 abbrev pub IsInput : List (List ℕ) → Option (List ℕ) → List ℕ → Type 0

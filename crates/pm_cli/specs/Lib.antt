@@ -2,6 +2,7 @@ pub mod Answer
 pub mod Classes
 pub mod Closing
 pub mod Commands
+pub mod Counting
 pub mod Drawing
 pub mod Ending
 pub mod Headline
@@ -9,6 +10,7 @@ pub mod Laws
 pub mod Lines
 pub mod MapAnswers
 pub mod ProfileWord
+pub mod Records
 pub mod Sampling
 pub mod TreeFile
 pub mod Trip

@@ -4,7 +4,7 @@ use Rattle.std.specs.Fmt.{signed_decimal}
 use Rattle.pm_lists.specs.declared.check.ListRefusal.{ListRefusal}
 use Rattle.pm_lists.specs.declared.check.ListRefusal.TheVariants.{Length, Entry}
 use Rattle.pm_cli.specs.declared.refusal.Limit.{Limit}
-use Rattle.pm_cli.specs.declared.refusal.Limit.TheVariants.{Bytes, Letters, Edges}
+use Rattle.pm_cli.specs.declared.refusal.Limit.TheVariants.{Bytes, Letters, Edges, Lists}
 use Rattle.pm_cli.specs.declared.refusal.MapRule.{MapRule}
 use Rattle.pm_cli.specs.declared.refusal.MapRule.TheVariants.{Permutation, Connected, Euler, Empty, Vertex, Face, Loop, Double}
 use Rattle.pm_cli.specs.declared.refusal.TreeRule.{TreeRule}
@@ -43,6 +43,7 @@ abbrev pub text_of_limit : Limit → List ℕ
 text_of_limit Bytes = codes "limit bytes"
 text_of_limit (Letters letters) = codes "limit letters " ++ decimal letters
 text_of_limit (Edges edges) = codes "limit edges " ++ decimal edges
+text_of_limit Lists = codes "limit lists"
 
 abbrev pub text_of_map_rule : MapRule → List ℕ
 text_of_map_rule (Permutation dart) = codes "map permutation " ++ decimal dart

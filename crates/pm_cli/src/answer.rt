@@ -1,5 +1,5 @@
 //! What commands answer, by class.
-ghost use Rattle.std.specs.Prelude.{◌≤◌, length, Ok};
+ghost use Rattle.std.specs.Prelude.{◌≤◌, length};
 ghost use Rattle.pm_io.specs.declared.TheConstants.{MAX_BYTES as limit};
 ghost use Rattle.pm_cli.specs.Answer.{AnswersReader, AnswersSize};
 ghost use Rattle.pm_cli.specs.Classes.{sized, IsSize};
@@ -73,7 +73,7 @@ pub(crate) fn make<O: Sink>(
     out: &mut O,
 ) -> Result<(), Stop>
     requires { IsSize size.now }
-    ensures { IsWritingRecords (λ text. AnswersSize task.now (sized size.now) (Ok text)) (IsFirstRecords task.now (sized size.now))
+    ensures { IsWritingRecords (AnswersSize task.now (sized size.now)) (IsFirstRecords task.now (sized size.now))
         (O.holds out.old) (O.holds out.new) (O.faults out.old) (O.faults out.new) result }
 {
     match size {

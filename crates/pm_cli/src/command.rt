@@ -55,6 +55,8 @@ pub enum Maker {
     /// `trip CLASS SIZE SEED`: draws a list of choices, samples it, unsamples what it gave, and counts the vertices, edges
     /// and faces of its map.
     Trip { seed: u64 },
+    /// `census CLASS SIZE`: answers each map of the class and size, with the number of its lists of choices.
+    Census,
 }
 
 /// What the first word of a command tells to do.
@@ -68,6 +70,7 @@ pub enum Verb {
     Unsample,
     Draw,
     Trip,
+    Census,
 }
 
 impl Verb {
@@ -88,6 +91,7 @@ impl Verb {
             "unsample" => Some(Verb::Unsample),
             "draw" => Some(Verb::Draw),
             "trip" => Some(Verb::Trip),
+            "census" => Some(Verb::Census),
             _ => None,
         }
     }

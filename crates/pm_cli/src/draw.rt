@@ -1,12 +1,14 @@
-ghost use Rattle.std.specs.Prelude.{◌≡◌, IfOk, OnOk};
+ghost use Rattle.std.specs.Prelude.{◌≡◌, ℕ, IfOk, OnOk};
 ghost use Rattle.pm_lists.specs.Valid.{AreBounds};
 ghost use Rattle.pm_draw.specs.Drawn.{words_of, drawn};
-ghost use Rattle.pm_cli.specs.Drawing.{IsRecord, IsDrawing, HasFirstRecords, RecordsGoOn};
+ghost use Rattle.pm_cli.specs.Drawing.{IsRecord, IsDrawnRecord, Draws};
 ghost use Rattle.pm_cli.specs.Answer.{AnswersSize};
 ghost use Rattle.pm_cli.specs.Classes.{AtSize};
 ghost use Rattle.pm_cli.specs.Ending.{IsFirstRecords};
+ghost use Rattle.pm_cli.specs.Records.{HasFirstRecords, RecordsGoOn};
 ghost use Rattle.pm_cli.specs.steps.Streams.{IsWritingRecords};
 
+use crate::census::write_census;
 use crate::command::Maker;
 use crate::refusal::Stop;
 use crate::sample::sample_text;
@@ -46,7 +48,7 @@ fn records_go_on<C: MapClass>(size: &C::Size, limits: &[u64])
     requires size { C.is_size size.now }
     requires limits { limits.now ≡ C.choice_limits size.now }
     requires bounds { AreBounds limits.now }
-    ensures { RecordsGoOn (C.choice_limits size.now) (C.samples size.now) }
+    ensures { (seed : ℕ) → RecordsGoOn (IsDrawnRecord (C.choice_limits size.now) (C.samples size.now) seed) }
 {
     each_list_is_sampled::<C>();
 }
@@ -61,8 +63,8 @@ fn draw<C: MapClass, O: Sink>(
     out: &mut O,
 ) -> Result<(), Stop>
     requires { C.is_size size.now }
-    ensures { IsWritingRecords (IsDrawing (C.choice_limits size.now) (C.samples size.now) seed count)
-        (HasFirstRecords (C.choice_limits size.now) (C.samples size.now) seed count)
+    ensures { IsWritingRecords (Draws (C.choice_limits size.now) (C.samples size.now) seed count)
+        (HasFirstRecords (IsDrawnRecord (C.choice_limits size.now) (C.samples size.now) seed) count)
         (O.holds out.old) (O.holds out.new) (O.faults out.old) (O.faults out.new) result }
 {
     let bounds = C::choice_bounds(alloc, size)?;
@@ -90,7 +92,7 @@ pub(crate) fn make_of<C: MapClass, O: Sink>(
       residue_limits = C.residue_limits size.now;
       has = C.has size.now;
       samples = C.samples size.now;
-    } in IsWritingRecords (λ text. AnswersSize task.now at (Ok text)) (IsFirstRecords task.now at)
+    } in IsWritingRecords (AnswersSize task.now at) (IsFirstRecords task.now at)
         (O.holds out.old) (O.holds out.new) (O.faults out.old) (O.faults out.new) result }
 {
     match task {
@@ -99,5 +101,6 @@ pub(crate) fn make_of<C: MapClass, O: Sink>(
             let text = trip::<C>(alloc, size, *seed)?;
             write_text(out, &text)
         }
+        Maker::Census => write_census::<C, O>(alloc, size, out),
     }
 }

@@ -2,6 +2,7 @@
 #![tactic(auto)]
 
 mod answer;
+mod census;
 mod check;
 mod choices_file;
 mod class;

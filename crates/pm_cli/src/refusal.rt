@@ -4,7 +4,7 @@ ghost use Rattle.pm_cli.specs.Lines.{line, text_of_limit, text_of_list, text_of_
 use pm_lists::ListRefusal;
 use std::alloc::{AllocError, Global};
 
-/// A limit that the input passes.
+/// A limit that the input passes, or the size of a census.
 #[derive(Clone, Copy, Debug, PartialEq, Eq)]
 pub enum Limit {
     /// More than `MAX_BYTES` bytes.
@@ -13,6 +13,8 @@ pub enum Limit {
     Letters { letters: u64 },
     /// More edges than the command takes: how many.
     Edges { edges: u64 },
+    /// More lists of choices than a census takes.
+    Lists,
 }
 
 /// A rule that a map breaks. Darts are those of the file.
@@ -133,6 +135,7 @@ impl Limit {
                 format!(in alloc; "planarmap: limit letters {letters}\n")
             }
             Limit::Edges { edges } => format!(in alloc; "planarmap: limit edges {edges}\n"),
+            Limit::Lists => String::from_str(alloc, "planarmap: limit lists\n"),
         }
     }
 }

@@ -4,6 +4,7 @@ use pm_class::UnsampleRefusal;
 use pm_io::Failed;
 use pm_map::{ClassRefusal, MapRefusal};
 use pm_mapfile::FileRefusal;
+use pm_reach::CensusRefusal;
 use std::alloc::AllocError;
 
 impl From<AllocError> for Stop {
@@ -100,6 +101,20 @@ impl From<UnsampleRefusal> for Stop {
             UnsampleRefusal::Memory => Stop::Memory,
             UnsampleRefusal::Class(refusal) => Stop::from(refusal),
             UnsampleRefusal::List(refusal) => Stop::Refused(Refusal::Invalid(refusal)),
+        }
+    }
+}
+
+impl From<CensusRefusal> for Stop {
+    ghost use Rattle.std.specs.Prelude.{◌≡◌};
+    ghost use Rattle.pm_cli.specs.steps.Answering.{stop_of_census};
+
+    ghost from_gives = { λ why stop. stop ≡ stop_of_census why };
+
+    fn from(refusal: CensusRefusal) -> Stop {
+        match refusal {
+            CensusRefusal::Memory => Stop::Memory,
+            CensusRefusal::TooManyLists => Stop::Refused(Refusal::Limited(Limit::Lists)),
         }
     }
 }

@@ -358,6 +358,20 @@ trip general 0 7||0|trip ok 1 0 1/
 trip general 100 7||0|trip ok 47 100 55/
 ";
 
+const CENSUS: &str = "\
+census||2|usage 1
+census square 1||2|usage 1
+census quartic||2|usage 2
+census quartic 0||2|usage 2
+census eulerian 2||2|usage 2
+census quartic 1 7||2|usage 3
+census quartic 1||0|map 2 0/v 0 2 3 1/end/lists 6/map 2 0/v 0 1 2 3/end/lists 6/total 2 12/
+census eulerian 2:1||0|map 1 0/v 0 1/end/lists 4/total 1 4/
+census bipartite 2:1||0|map 1 0/v 0/v 1/end/lists 4/total 1 4/
+census general 0||0|map 0 0/end/lists 2/total 1 2/
+census general 5||7|limit lists
+";
+
 // The bytes that a part of a row writes.
 fn bytes_of(alloc: Global, text: &str) -> Result<Vec<u8>, AllocError> {
     let mut bytes = Vec::new(alloc);
@@ -405,6 +419,7 @@ fn answers_and_refusals(rt: HostRuntime) -> Result<(), Fail> {
         UNSAMPLE,
         DRAW,
         TRIP,
+        CENSUS,
         GENERAL,
         BIPARTITE,
     ] {
@@ -416,10 +431,11 @@ fn answers_and_refusals(rt: HostRuntime) -> Result<(), Fail> {
 }
 
 // Each record has one write, so what a failing second write leaves is the first record and a front of the second one. A
-// drawing reads nothing, nor does a trip.
+// drawing reads nothing, nor does a trip or a census.
 #[test]
 fn failing_streams(rt: HostRuntime) -> Result<(), Fail> {
     let (close, draw, trip) = ("close eulerian", "draw quartic 1 7 2", "trip quartic 20 1");
+    let census = "census quartic 1";
     for (line, faults, status, kept, told) in [
         (close, Faults { read: 3, ..NONE }, 5, 0, "read"),
         (
@@ -451,6 +467,9 @@ fn failing_streams(rt: HostRuntime) -> Result<(), Fail> {
         (draw, Faults { out: 3, ..NONE }, 8, 100, "write"),
         (trip, Faults { read: 1, ..NONE }, 0, 17, ""),
         (trip, Faults { out: 2, ..NONE }, 8, 17, "write"),
+        (census, Faults { read: 1, ..NONE }, 0, 71, ""),
+        (census, Faults { out: 2, ..NONE }, 8, 30, "write"),
+        (census, Faults { out: 4, ..NONE }, 8, 71, "write"),
     ] {
         let whole = run_on(&rt, rt.alloc(), line, b"tree lbl\n", NONE)?;
         let run = run_on(&rt, rt.alloc(), line, b"tree lbl\n", faults)?;
@@ -534,5 +553,20 @@ fn fewer_records_are_a_front(rt: HostRuntime) -> Result<(), Fail> {
     assert_eq!(rt; few.status, 0);
     assert_eq!(rt; many.status, 0);
     assert!(rt; many.out.bytes().starts_with(few.out.bytes()));
+    Ok(())
+}
+
+// There are 2 · 3^4 · C(8, 4) / (5 · 6) maps with four edges, and 2 · 3^4 · 8! / 4! lists.
+#[test]
+fn maps_with_four_edges_are_counted(rt: HostRuntime) -> Result<(), Fail> {
+    let run = run_on(&rt, rt.alloc(), "census general 4", b"", NONE)?;
+    assert_eq!(rt; run.status, 0);
+    let text = std::str::from_utf8(run.out.bytes())?;
+    assert!(rt; text.ends_with("total 378 272160\n"));
+    for line in text.lines() {
+        if line.starts_with("lists") {
+            assert_eq!(rt; line, "lists 720");
+        }
+    }
     Ok(())
 }

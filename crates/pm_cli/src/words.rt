@@ -4,7 +4,7 @@ ghost use Rattle.pm_cli.specs.declared.words.TheConstants.{MAX_RECORDS};
 ghost use Rattle.pm_cli.specs.declared.command.Command.{Command};
 ghost use Rattle.pm_cli.specs.declared.command.Command.TheVariants.{Reads};
 ghost use Rattle.pm_cli.specs.declared.command.Verb.{Verb};
-ghost use Rattle.pm_cli.specs.declared.command.Verb.TheVariants.{Close, Sample, Draw, Trip};
+ghost use Rattle.pm_cli.specs.declared.command.Verb.TheVariants.{Close, Draw, Trip};
 ghost use Rattle.pm_cli.specs.declared.command.Reader.{Reader};
 ghost use Rattle.pm_cli.specs.Classes.{IsSize, class_word};
 ghost use Rattle.pm_cli.specs.Commands.{size_words, Spells, IsNoCommand, AreDrawNumbers, number_words};
@@ -69,6 +69,24 @@ fn read_size(alloc: Global, words: &[String]) -> Result<Result<Sized<'_>, u32>, 
     match Size::of_word(alloc, class, second)? {
         Some(size) => Ok(Ok(Sized { size, rest })),
         None => Ok(Err(1)),
+    }
+}
+
+// Reads a class and a size of it, which are all the words, or says how many of them begin such words.
+fn size_alone(alloc: Global, words: &[String]) -> Result<Result<Size, u32>, AllocError>
+    ensures { IfOk result (λ found. MatchResult found
+        (λ size. IsSize size × (map string_bytes words.now ≡ size_words size []))
+        (λ k. (k < 3) × StopsAt AreSizeWords (map string_bytes words.now) k)) }
+{
+    match read_size(alloc, words)? {
+        Ok(Sized { size, rest }) => {
+            if rest.is_empty() {
+                Ok(Ok(size))
+            } else {
+                Ok(Err(2))
+            }
+        }
+        Err(matched) => Ok(Err(matched)),
     }
 }
 
@@ -166,26 +184,15 @@ impl Command {
             Verb::Unsample => Ok(class_alone(words).map(|class| Command::Reads(Reader::Unsample(
                 class,
             )))),
-            Verb::Sample => Command::of_sample(alloc, words),
+            Verb::Sample => Ok(size_alone(alloc, words)?.map(|size| Command::Reads(Reader::Sample(
+                size,
+            )))),
             Verb::Draw => Command::of_draw(alloc, words),
             Verb::Trip => Command::of_trip(alloc, words),
-        }
-    }
-
-    // The same behind `sample`.
-    fn of_sample(alloc: Global, words: &[String]) -> Result<Result<Command, u32>, AllocError>
-        ensures { IfOk result (λ found. MatchResult found (IsBehind Sample (map string_bytes words.now))
-            (λ k. (k < 5) × StopsAt AreSizeWords (map string_bytes words.now) k)) }
-    {
-        match read_size(alloc, words)? {
-            Ok(Sized { size, rest }) => {
-                if rest.is_empty() {
-                    Ok(Ok(Command::Reads(Reader::Sample(size))))
-                } else {
-                    Ok(Err(2))
-                }
-            }
-            Err(matched) => Ok(Err(matched)),
+            Verb::Census => Ok(size_alone(alloc, words)?.map(|size| Command::Makes {
+                task: Maker::Census,
+                size,
+            })),
         }
     }
 

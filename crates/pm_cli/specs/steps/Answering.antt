@@ -3,7 +3,11 @@ use Rattle.std.specs.Prelude.{◌≡◌, ℕ, List, Some, Result, Ok, Err, ⊤, 
 use Rattle.std.specs.declared.alloc.Global.{Global}
 use Rattle.pm_map.specs.declared.class_refusal.ClassRefusal.{ClassRefusal}
 use Rattle.pm_map.specs.Rotation.{RotationSystem}
+use Rattle.pm_reach.specs.declared.counting.CensusRefusal.{CensusRefusal}
+use Rattle.pm_reach.specs.declared.counting.CensusRefusal.TheVariants as census
+use Rattle.pm_cli.specs.declared.refusal.Limit.TheVariants.{Lists}
 use Rattle.pm_cli.specs.declared.refusal.Refusal.{Refusal}
+use Rattle.pm_cli.specs.declared.refusal.Refusal.TheVariants.{Limited}
 use Rattle.pm_cli.specs.declared.refusal.Stop.{Stop}
 use Rattle.pm_cli.specs.declared.refusal.Stop.TheVariants.{Refused, Read, Write, Memory}
 use Rattle.pm_cli.specs.MapAnswers.{MapRelation, rule_of_class}
@@ -24,3 +28,8 @@ IsAnswerBy answers (Err stop) = StopsBy (λ refusal. answers (Err refusal)) stop
 pub data AnswersTo (relation : MapRelation) (map : RotationSystem) : Result (List ℕ) Refusal → Type 0 where
   tells : (text : List ℕ) → relation.text_of map text → AnswersTo relation map (Ok text)
   breaks_rule : (refusal : Refusal) (why : ClassRefusal) → rule_of_class why ≡ Some refusal → relation.refuses map why → AnswersTo relation map (Err refusal)
+
+-- how a run stops where there is no census
+abbrev pub stop_of_census : CensusRefusal → Stop
+stop_of_census census.Memory = Memory
+stop_of_census census.TooManyLists = Refused (Limited Lists)

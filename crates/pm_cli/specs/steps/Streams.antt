@@ -5,6 +5,7 @@ use Rattle.pm_io.specs.declared.TheConstants.{MAX_BYTES}
 use Rattle.pm_io.specs.Bytes.{added}
 use Rattle.pm_io.specs.Faults.{FaultsRose}
 use Rattle.pm_cli.specs.declared.refusal.Limit.TheVariants.{Bytes}
+use Rattle.pm_cli.specs.declared.refusal.Refusal.{Refusal}
 use Rattle.pm_cli.specs.declared.refusal.Refusal.TheVariants.{Limited}
 use Rattle.pm_cli.specs.declared.refusal.Stop.{Stop}
 use Rattle.pm_cli.specs.declared.refusal.Stop.TheVariants.{Refused, Read, Write, Memory}
@@ -55,13 +56,14 @@ pub record HasAddedFirst (first all : List ℕ → Type 0) (old new : Option (Li
   pub holds : all (begun ++ rest)
   pub written : new ≡ added old begun
 
--- all records were written, or a front of them where the output failed, or nothing or the first ones where memory was
--- wanting
-abbrev pub IsWritingRecords : (List ℕ → Type 0) → (List ℕ → Type 0) → Option (List ℕ) → Option (List ℕ) → ℕ → ℕ → Result (Unit {0}) Stop → Type 0
-IsWritingRecords all first old new faults_old faults_new (Ok done) = HasAdded all old new × (faults_new ≡ faults_old)
-IsWritingRecords all first old new faults_old faults_new (Err Write) = HasAddedFront all old new × FaultsRose faults_old faults_new
-IsWritingRecords all first old new faults_old faults_new (Err Memory) = ((new ≡ old) ⊎ HasAddedFirst first all old new) × (faults_new ≡ faults_old)
-IsWritingRecords all first old new faults_old faults_new (Err stop) = ⊥
+-- all records of an answer were written, or a front of them where the output failed, or nothing or the first ones where
+-- memory was wanting, or nothing where the answer is a refusal
+abbrev pub IsWritingRecords : (Result (List ℕ) Refusal → Type 0) → (List ℕ → Type 0) → Option (List ℕ) → Option (List ℕ) → ℕ → ℕ → Result (Unit {0}) Stop → Type 0
+IsWritingRecords answers first old new faults_old faults_new (Ok done) = HasAdded (λ text. answers (Ok text)) old new × (faults_new ≡ faults_old)
+IsWritingRecords answers first old new faults_old faults_new (Err Write) = HasAddedFront (λ text. answers (Ok text)) old new × FaultsRose faults_old faults_new
+IsWritingRecords answers first old new faults_old faults_new (Err Memory) = ((new ≡ old) ⊎ HasAddedFirst first (λ text. answers (Ok text)) old new) × (faults_new ≡ faults_old)
+IsWritingRecords answers first old new faults_old faults_new (Err (Refused refusal)) = answers (Err refusal) × (new ≡ old) × (faults_new ≡ faults_old)
+IsWritingRecords answers first old new faults_old faults_new (Err Read) = ⊥
 
 -- what is told of a stop: the stop itself, or want of memory in place of a refusal
 abbrev pub IsToldFor : Stop → Stop → Type 0

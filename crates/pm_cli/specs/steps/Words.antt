@@ -72,6 +72,7 @@ AreBehind verb.Sample = AreSizeWords
 AreBehind verb.Unsample = IsOneOf IsClassWord
 AreBehind verb.Draw = AreDrawWords
 AreBehind verb.Trip = AreTripWords
+AreBehind verb.Census = AreSizeWords
 
 -- the verb, and these words behind it, spell the command
 pub record IsBehind (verb : Verb) (words : List (List ℕ)) (command : Command) : Type 0 where

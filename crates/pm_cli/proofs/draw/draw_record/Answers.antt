@@ -1,7 +1,7 @@
 use Rattle.std.proofs.Common.{List, ℕ, ◌++◌, ap, ◌∙◌, subst}
 use Rattle.pm_class.specs.Sampling.{IsSampledUnnamed}
-use Rattle.pm_cli.proofs.Records.{record_made}
 use Rattle.pm_cli.proofs.UnnamedTexts.{unnamed_text}
+use Rattle.pm_cli.proofs.WholeDrawings.{record_made}
 use Rattle.pm_cli.proofs.draw.draw_record.Goals as goal
 
 pub returns-clause-record : goal.returns-clause-record

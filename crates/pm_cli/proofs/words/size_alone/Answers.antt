@@ -1,7 +1,7 @@
 use Rattle.std.proofs.Common.{map, arith}
 use Rattle.std.specs.Prelude.{string_bytes}
 use Rattle.pm_cli.proofs.StoppingWords.{some_words, words_after_size}
-use Rattle.pm_cli.proofs.command.Command.of_sample.Goals as goal
+use Rattle.pm_cli.proofs.words.size_alone.Goals as goal
 
 pub returns-else-is_empty : goal.returns-else-is_empty
 returns-else-is_empty c =

@@ -1,0 +1,75 @@
+#!/usr/bin/env bash
+# Runs `census` on the real process for each class and size of the table, and compares: how many maps it prints, their line
+# `lists`, and the line `total`. The table has each size of `general` and `quartic` that has few enough lists, and each
+# profile of `eulerian` and `bipartite` with at most 4 edges. Its numbers are those of formulas:
+#
+#   n edges, or n vertices of degree 4   2 * 3^n * C(2n, n) / ((n + 1) * (n + 2)) maps (Tutte), 2 * 3^n * (2n)! / n! lists
+#   p of degree 2i for each i            2 * e! / (e - v + 2)! * the product of C(2i - 1, i)^p / p! maps, where v is the sum
+#                                        of p and e that of i * p; 2 * (e + 1)! * the product of C(2i - 1, i)^p lists
+#
+#   tests/census.sh [PROGRAM]      without PROGRAM the one that `./planarmap --build` makes
+#
+# The last line counts the rows. Status 0: each row passed. Status 1: one failed. Status 2: there is no program.
+set -u
+top=$(cd "$(dirname "$0")/.." && pwd) || exit 2
+program=${1:-$top/crates/planarmap/out/planarmap}
+if [ ! -x "$program" ]; then
+    echo "tests/census.sh: no program at $program" >&2
+    exit 2
+fi
+passed=0
+failed=0
+
+# What is seen of a census: how many maps it prints, its lines `lists`, each once, and its last line.
+seen() {
+    "$program" census "$1" "$2" | awk '
+        $1 == "map" { maps++ }
+        $1 == "lists" && !($0 in had) { had[$0]; lines = lines $0 "; " }
+        END { print maps " maps; " lines $0 }'
+}
+
+while read -r class size maps lists; do
+    wanted="$maps maps; lists $((lists / maps)); total $maps $lists"
+    got=$(seen "$class" "$size")
+    if [ "$got" = "$wanted" ]; then
+        passed=$((passed + 1))
+    else
+        failed=$((failed + 1))
+        echo "tests/census.sh: census $class $size: $got, and not $wanted" >&2
+    fi
+done <<'END'
+general 0 1 2
+general 1 2 12
+general 2 9 216
+general 3 54 6480
+general 4 378 272160
+quartic 1 2 12
+quartic 2 9 216
+quartic 3 54 6480
+quartic 4 378 272160
+eulerian 2:1 1 4
+eulerian 2:2 1 12
+eulerian 4:1 2 36
+eulerian 2:3 1 48
+eulerian 2:1,4:1 6 144
+eulerian 6:1 5 480
+eulerian 2:4 1 240
+eulerian 2:2,4:1 12 720
+eulerian 2:1,6:1 20 2400
+eulerian 4:2 9 2160
+eulerian 8:1 14 8400
+bipartite 2:1 1 4
+bipartite 2:2 1 12
+bipartite 4:1 2 36
+bipartite 2:3 1 48
+bipartite 2:1,4:1 6 144
+bipartite 6:1 5 480
+bipartite 2:4 1 240
+bipartite 2:2,4:1 12 720
+bipartite 2:1,6:1 20 2400
+bipartite 4:2 9 2160
+bipartite 8:1 14 8400
+END
+
+echo "tests/census.sh: $passed rows passed, $failed failed"
+[ "$failed" -eq 0 ]
