@@ -85,7 +85,7 @@ module _ (at : AtSize) (one : HasOneSample at.samples)
 
   -- and drawing has one
   pub draws_once : (seed count : ℕ) (a b : Result (List ℕ) Refusal) → Draws at.choice_limits at.samples seed count a → Draws at.choice_limits at.samples seed count b → a ≡ b
-  draws_once seed count (Ok text) (Ok other) x y = 
+  draws_once seed count (Ok text) (Ok other) x y =
       ap Ok (records_once (IsDrawnRecord at.choice_limits at.samples seed)
       (λ place. one_record at.samples one_sample_text (drawn at.choice_limits (left_after at.choice_limits (words_of (generator_of seed)) place)).0) count text other x y)
   draws_once seed count (Ok text) (Err refusal) x y = absurd y

@@ -27,13 +27,13 @@ maps-init g c = record { so_far = none_written (IsCensusRecord c.found.inside.nu
 pub returns-in_err-text : goal.returns-in_err-text
 returns-in_err-text g c = stopped_as (IsWritingRecords (Counts (g.C.MapClass.choice_limits c.args.size.now) (g.C.MapClass.samples c.args.size.now)) (HasFirstEntries (g.C.MapClass.choice_limits c.args.size.now) (g.C.MapClass.samples c.args.size.now))
     (g.O.Sink.holds c.args.out.now) (g.O.Sink.holds c.maps.out) (g.O.Sink.faults c.args.out.now) (g.O.Sink.faults c.maps.out)) Memory (
-  inr (entries_written (g.C.MapClass.choice_limits c.args.size.now) (g.C.MapClass.samples c.args.size.now) c.in_ok-found.found c.in_ok-found.ensures.0 c.in_ok-found.ensures.1
-    c.entries_go_on.ensures c.maps.place (g.O.Sink.holds c.args.out.now) (g.O.Sink.holds c.maps.out)
-    (place_within c.in_ok-found.found c.maps.place c.map.result.now c.map.ensures)
-    (subst (λ (entries : List (RotationSystem × ℕ)). AreWritten (IsCensusRecord entries) c.maps.place (g.O.Sink.holds c.args.out.now) (g.O.Sink.holds c.maps.out)) c.found.view_is
-    c.maps.invariant.so_far)),
-  c.maps.invariant.calm,
-) c.from_residual-in_err-text.result c.from_residual-in_err-text.ensures.1
+      inr (entries_written (g.C.MapClass.choice_limits c.args.size.now) (g.C.MapClass.samples c.args.size.now) c.in_ok-found.found c.in_ok-found.ensures.0 c.in_ok-found.ensures.1
+          c.entries_go_on.ensures c.maps.place (g.O.Sink.holds c.args.out.now) (g.O.Sink.holds c.maps.out)
+          (place_within c.in_ok-found.found c.maps.place c.map.result.now c.map.ensures)
+          (subst (λ (entries : List (RotationSystem × ℕ)). AreWritten (IsCensusRecord entries) c.maps.place (g.O.Sink.holds c.args.out.now) (g.O.Sink.holds c.maps.out)) c.found.view_is
+          c.maps.invariant.so_far)),
+      c.maps.invariant.calm,
+    ) c.from_residual-in_err-text.result c.from_residual-in_err-text.ensures.1
 
 pub returns-in_err-write : goal.returns-in_err-write
 returns-in_err-write g c =
@@ -42,10 +42,10 @@ returns-in_err-write g c =
     stopped_as (IsWritingRecords (Counts (g.C.MapClass.choice_limits c.args.size.now) (g.C.MapClass.samples c.args.size.now)) (HasFirstEntries (g.C.MapClass.choice_limits c.args.size.now) (g.C.MapClass.samples c.args.size.now))
     (g.O.Sink.holds c.args.out.now) (g.O.Sink.holds c.write.new.self) (g.O.Sink.faults c.args.out.now) (g.O.Sink.faults c.write.new.self)) Write (
       entry_in_front (g.C.MapClass.choice_limits c.args.size.now) (g.C.MapClass.samples c.args.size.now) c.in_ok-found.found c.in_ok-found.ensures.0 c.in_ok-found.ensures.1
-    c.entries_go_on.ensures c.maps.place front.0 (g.O.Sink.holds c.args.out.now) (g.O.Sink.holds c.maps.out) (g.O.Sink.holds c.write.new.self) c.in_ok-text.text.items
-    (place_within c.in_ok-found.found c.maps.place c.map.result.now c.map.ensures)
-    (subst (λ (entries : List (RotationSystem × ℕ)). AreWritten (IsCensusRecord entries) c.maps.place (g.O.Sink.holds c.args.out.now) (g.O.Sink.holds c.maps.out)) c.found.view_is
-    c.maps.invariant.so_far) is_record
+          c.entries_go_on.ensures c.maps.place front.0 (g.O.Sink.holds c.args.out.now) (g.O.Sink.holds c.maps.out) (g.O.Sink.holds c.write.new.self) c.in_ok-text.text.items
+          (place_within c.in_ok-found.found c.maps.place c.map.result.now c.map.ensures)
+          (subst (λ (entries : List (RotationSystem × ℕ)). AreWritten (IsCensusRecord entries) c.maps.place (g.O.Sink.holds c.args.out.now) (g.O.Sink.holds c.maps.out)) c.found.view_is
+          c.maps.invariant.so_far) is_record
           (front.1 ∙ ap (λ (t : List ℕ). added (g.O.Sink.holds c.maps.out) (take front.0 t)) c.deref.ensures.value),
       subst (λ (f : ℕ). FaultsRose f (g.O.Sink.faults c.write.new.self)) c.maps.invariant.calm c.in_err-write.ensures.cause,
     ) c.from_residual-in_err-write.result c.from_residual-in_err-write.ensures.1
@@ -67,13 +67,13 @@ maps-preserved g c =
     c.maps.invariant.summed ∙ ap (λ (entries : List (RotationSystem × ℕ)). sum (take c.maps.place (values_of entries))) c.found.view_is in
     record {
       so_far = subst (λ (entries : List (RotationSystem × ℕ)). AreWritten (IsCensusRecord entries) (c.maps.place + 1) (g.O.Sink.holds c.args.out.now) (g.O.Sink.holds c.write.new.self))
-    (sym c.found.view_is)
-    (one_more_written (IsCensusRecord c.in_ok-found.found) c.maps.place (g.O.Sink.holds c.args.out.now) (g.O.Sink.holds c.maps.out) (g.O.Sink.holds c.write.new.self)
-    c.in_ok-text.text.items (subst (λ (entries : List (RotationSystem × ℕ)). AreWritten (IsCensusRecord entries) c.maps.place (g.O.Sink.holds c.args.out.now) (g.O.Sink.holds c.maps.out)) c.found.view_is
-    c.maps.invariant.so_far) is_record
-    (c.in_ok-write.ensures.whole ∙ ap (added (g.O.Sink.holds c.maps.out)) c.deref.ensures.value));
+          (sym c.found.view_is)
+          (one_more_written (IsCensusRecord c.in_ok-found.found) c.maps.place (g.O.Sink.holds c.args.out.now) (g.O.Sink.holds c.maps.out) (g.O.Sink.holds c.write.new.self)
+          c.in_ok-text.text.items (subst (λ (entries : List (RotationSystem × ℕ)). AreWritten (IsCensusRecord entries) c.maps.place (g.O.Sink.holds c.args.out.now) (g.O.Sink.holds c.maps.out)) c.found.view_is
+          c.maps.invariant.so_far) is_record
+          (c.in_ok-write.ensures.whole ∙ ap (added (g.O.Sink.holds c.maps.out)) c.deref.ensures.value));
       summed = ap (λ (n : ℕ). n + c.lists-lists.result) summed ∙ sym more.0
-    ∙ ap (λ (entries : List (RotationSystem × ℕ)). sum (take (c.maps.place + 1) (values_of entries))) (sym c.found.view_is);
+          ∙ ap (λ (entries : List (RotationSystem × ℕ)). sum (take (c.maps.place + 1) (values_of entries))) (sym c.found.view_is);
       calm = c.in_ok-write.ensures.calm ∙ c.maps.invariant.calm;
     }
 
@@ -83,9 +83,9 @@ returns-in_err-total g c =
     stopped_as (IsWritingRecords (Counts (g.C.MapClass.choice_limits c.args.size.now) (g.C.MapClass.samples c.args.size.now)) (HasFirstEntries (g.C.MapClass.choice_limits c.args.size.now) (g.C.MapClass.samples c.args.size.now))
     (g.O.Sink.holds c.args.out.now) (g.O.Sink.holds c.maps.out) (g.O.Sink.faults c.args.out.now) (g.O.Sink.faults c.maps.out)) Memory (
       inr (entries_written (g.C.MapClass.choice_limits c.args.size.now) (g.C.MapClass.samples c.args.size.now) c.in_ok-found.found c.in_ok-found.ensures.0 c.in_ok-found.ensures.1
-    c.entries_go_on.ensures c.maps.place (g.O.Sink.holds c.args.out.now) (g.O.Sink.holds c.maps.out) within
-    (subst (λ (entries : List (RotationSystem × ℕ)). AreWritten (IsCensusRecord entries) c.maps.place (g.O.Sink.holds c.args.out.now) (g.O.Sink.holds c.maps.out)) c.found.view_is
-    c.maps.invariant.so_far)),
+          c.entries_go_on.ensures c.maps.place (g.O.Sink.holds c.args.out.now) (g.O.Sink.holds c.maps.out) within
+          (subst (λ (entries : List (RotationSystem × ℕ)). AreWritten (IsCensusRecord entries) c.maps.place (g.O.Sink.holds c.args.out.now) (g.O.Sink.holds c.maps.out)) c.found.view_is
+          c.maps.invariant.so_far)),
       c.maps.invariant.calm,
     ) c.from_residual-in_err-total.result c.from_residual-in_err-total.ensures.1
 

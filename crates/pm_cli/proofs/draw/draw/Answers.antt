@@ -16,10 +16,10 @@ pub returns-in_err-record : goal.returns-in_err-record
 returns-in_err-record g c = stopped_as (IsWritingRecords (Draws (g.C.MapClass.choice_limits c.args.size.now) (g.C.MapClass.samples c.args.size.now) c.args.seed c.args.count)
     (HasFirstRecords (IsDrawnRecord (g.C.MapClass.choice_limits c.args.size.now) (g.C.MapClass.samples c.args.size.now) c.args.seed) c.args.count)
     (g.O.Sink.holds c.args.out.now) (g.O.Sink.holds c.records.out) (g.O.Sink.faults c.args.out.now) (g.O.Sink.faults c.records.out)) Memory (
-  inr (first_written (IsDrawnRecord (g.C.MapClass.choice_limits c.args.size.now) (g.C.MapClass.samples c.args.size.now) c.args.seed) (c.records_go_on.ensures c.args.seed) c.records._place
-      c.args.count (g.O.Sink.holds c.args.out.now) (g.O.Sink.holds c.records.out) (omega arith) c.records.invariant.so_far),
-  c.records.invariant.calm,
-) c.from_residual-in_err-record.result c.from_residual-in_err-record.ensures.1
+      inr (first_written (IsDrawnRecord (g.C.MapClass.choice_limits c.args.size.now) (g.C.MapClass.samples c.args.size.now) c.args.seed) (c.records_go_on.ensures c.args.seed) c.records._place
+          c.args.count (g.O.Sink.holds c.args.out.now) (g.O.Sink.holds c.records.out) (omega arith) c.records.invariant.so_far),
+      c.records.invariant.calm,
+    ) c.from_residual-in_err-record.result c.from_residual-in_err-record.ensures.1
 
 pub records-init : goal.records-init
 records-init g c = record {
@@ -62,7 +62,7 @@ pub returns-in_err-flush : goal.returns-in_err-flush
 returns-in_err-flush g c = stopped_as (IsWritingRecords (Draws (g.C.MapClass.choice_limits c.args.size.now) (g.C.MapClass.samples c.args.size.now) c.args.seed c.args.count)
     (HasFirstRecords (IsDrawnRecord (g.C.MapClass.choice_limits c.args.size.now) (g.C.MapClass.samples c.args.size.now) c.args.seed) c.args.count)
     (g.O.Sink.holds c.args.out.now) (g.O.Sink.holds c.flush.new.self) (g.O.Sink.faults c.args.out.now) (g.O.Sink.faults c.flush.new.self)) Write (
-  first_in_front (IsDrawnRecord (g.C.MapClass.choice_limits c.args.size.now) (g.C.MapClass.samples c.args.size.now) c.args.seed) (c.records_go_on.ensures c.args.seed) c.records._place
-      c.args.count (g.O.Sink.holds c.args.out.now) (g.O.Sink.holds c.records.out) (g.O.Sink.holds c.flush.new.self) (omega arith) c.records.invariant.so_far c.flush.ensures.stays,
-  subst (λ (f : ℕ). FaultsRose f (g.O.Sink.faults c.flush.new.self)) c.records.invariant.calm c.in_err-flush.ensures.cause,
-) c.from_residual-in_err-flush.result c.from_residual-in_err-flush.ensures.1
+      first_in_front (IsDrawnRecord (g.C.MapClass.choice_limits c.args.size.now) (g.C.MapClass.samples c.args.size.now) c.args.seed) (c.records_go_on.ensures c.args.seed) c.records._place
+          c.args.count (g.O.Sink.holds c.args.out.now) (g.O.Sink.holds c.records.out) (g.O.Sink.holds c.flush.new.self) (omega arith) c.records.invariant.so_far c.flush.ensures.stays,
+      subst (λ (f : ℕ). FaultsRose f (g.O.Sink.faults c.flush.new.self)) c.records.invariant.calm c.in_err-flush.ensures.cause,
+    ) c.from_residual-in_err-flush.result c.from_residual-in_err-flush.ensures.1
