@@ -10,6 +10,27 @@ fn has_its_room(rt: HostRuntime) -> Result<(), Fail> {
 }
 
 #[test]
+fn takes_links_and_gives_back(rt: HostRuntime) -> Result<(), Fail> {
+    let mut pool = Pool::with_room(rt.alloc(), 8)?;
+    let a = pool.take();
+    assert_eq!(rt; pool.spare(), 7);
+    let b = pool.take();
+    assert_eq!(rt; pool.spare(), 6);
+    pool.insert_after(a, b);
+    assert_eq!(rt; pool.next(a), b);
+    assert_eq!(rt; pool.next(b), a);
+    assert_eq!(rt; pool.prev(a), b);
+    assert_eq!(rt; pool.twin(b), b);
+    pool.remove(b);
+    assert_eq!(rt; pool.next(a), a);
+    pool.give(b);
+    assert_eq!(rt; pool.spare(), 7);
+    pool.clear();
+    assert_eq!(rt; pool.spare(), 8);
+    Ok(())
+}
+
+#[test]
 fn lends_its_work(rt: HostRuntime) -> Result<(), Fail> {
     let mut room = Room::with_room(rt.alloc(), 4)?;
     assert_eq!(rt; room.edges(), 4);
