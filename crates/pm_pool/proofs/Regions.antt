@@ -11,7 +11,8 @@ use Rattle.pm_perm.proofs.Counts.{count_below-none, some_pass}
 use Rattle.pm_perm.proofs.Exchanged.{count_below-changed}
 use Rattle.pm_perm.proofs.PlacesWritten.{inverse-permutes}
 use Rattle.pm_pool.specs.Region.{IsAlone, IsCleared, IsInserted, IsLive, IsRegion, IsRemoved, IsTaken, Region, is_live, live_darts, room, with_live}
-use Rattle.pm_pool.specs.steps.Free.{AreNumbers, IsFree, IsStore}
+use Rattle.pm_pool.specs.steps.Free.{IsFree, IsStore}
+use Rattle.pm_pool.specs.steps.Links.{AreNumbers, IsRelinked}
 
 -- a live dart is below the room
 pub live-within : (r : Region) (d : ℕ) → IsLive r d → d < room r
@@ -277,16 +278,14 @@ store-cleared live next prev twin free size as_many few none n p t f =
 pub refilled : (size : ℕ) (old new : List ℕ) → size ≡ length old → length new ≡ length old → take size (new ++ drop (length new) old) ≡ new
 refilled size old new e f = ap (λ n. take n (new ++ drop (length new) old)) (e ∙ sym f) ∙ take-append_seam new (drop (length new) old)
 
--- the links after an exchange
-pub record IsRelinked (old next prev : List ℕ) (a b : ℕ) : Type 0 where
-  pub same_length : length next ≡ length old
-  pub exchanged : IsExchangeBelow (length old) (slice_index old) (slice_index next) a b
-  pub still : IsPermutationList next
-  pub inverse : IsInverseList next prev
-
-pub relinked-written : (old old' next next' prev prev' : List ℕ) (a b : ℕ) → IsRelinked old next prev a b → old ≡ old' → next' ≡ next → prev' ≡ prev → IsRelinked old' next' prev' a b
-relinked-written old old' next next' prev prev' a b x e f g =
-    subst (λ n. IsRelinked old' n prev' a b) (sym f) (subst (λ p. IsRelinked old' next p a b) (sym g) (subst (λ o. IsRelinked o next prev a b) e x))
+-- the same of the two vectors
+pub relinked-vectors : (n p : ℕ) (old old' next prev items : List ℕ) (a b : ℕ) → IsRelinked old next prev a b → old ≡ old' → n ≡ length old' → p ≡ length items
+    → length prev ≡ length items → IsRelinked old' (take n (next ++ drop (length next) old')) (take p (prev ++ drop (length prev) items)) a b
+relinked-vectors n p old old' next prev items a b x e f g same =
+    let next_is = refilled n old' next f (x.same_length ∙ ap length e) in
+    let prev_is = refilled p items prev g same in
+    subst (λ xs. IsRelinked old' xs (take p (prev ++ drop (length prev) items)) a b) (sym next_is)
+    (subst (λ xs. IsRelinked old' next xs a b) (sym prev_is) (subst (λ o. IsRelinked o next prev a b) e x))
 
 pub store-linked : (r : Region) (free : List ℕ) (spare : ℕ) (next prev : List ℕ) (a b : ℕ) → IsStore r free spare → IsLive r a → IsLive r b → IsRelinked r.next next prev a b
     → IsStore (relinked r next prev) free spare

@@ -1,9 +1,8 @@
 //! The lists of a pool.
 ghost use Rattle.std.specs.Prelude.{◌≡◌, ◌<◌, ◌^◌, length, slice_index, IfOk};
-ghost use Rattle.pm_perm.specs.Exchange.{IsExchangeBelow};
 ghost use Rattle.pm_perm.specs.Lists.{IsInverseList};
 ghost use Rattle.pm_perm.specs.Permutation.{IsPermutationList};
-ghost use Rattle.pm_pool.specs.steps.Free.{AreNumbers};
+ghost use Rattle.pm_pool.specs.steps.Links.{AreNumbers, IsRelinked};
 
 use std::alloc::{AllocError, Global};
 
@@ -15,10 +14,7 @@ pub fn relink(next: &mut [u32], prev: &mut [u32], a: u32, b: u32)
     requires first_inside { a < length next.old }
     requires second_inside { b < length next.old }
 
-    ensures same_length { length next.new ≡ length next.old }
-    ensures exchanged { IsExchangeBelow (length next.old) (slice_index next.old) (slice_index next.new) a b }
-    ensures still { IsPermutationList next.new }
-    ensures inverse { IsInverseList next.new prev.new }
+    ensures { IsRelinked next.old next.new prev.new a b }
 {
     next.swap(a as usize, b as usize);
     let after_a = next[a as usize];

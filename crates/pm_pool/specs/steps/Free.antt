@@ -14,8 +14,3 @@ pub record IsFree (r : Region) (free : List ℕ) (spare : ℕ) : Type 0 where
 pub record IsStore (r : Region) (numbers : List ℕ) (spare : ℕ) : Type 0 where
   pub region : IsRegion r
   pub free : IsFree r numbers spare
-
--- each entry is its own place
-pub record AreNumbers (numbers : List ℕ) (size : ℕ) : Type 0 where
-  pub as_long : length numbers ≡ size
-  pub each : (k : ℕ) → k < size → slice_index numbers k ≡ k
