@@ -1,1 +1,3 @@
+pub mod LoneDarts
+pub mod Planes
 pub mod Regions

@@ -110,7 +110,7 @@ store-taken r free spare last d w one is_last =
     let same : length (set r.live d true) ≡ length r.live = length-set r.live d true in
     let count = count-marked r d true within in
     let before : cond {A = ℕ} (is_live r d) 1 0 ≡ 0 = ap (λ (b : Bool). cond {A = ℕ} b 1 0) dead in (
-      record { within = within; was_dead = dead; is_now = refl; same_room = same; one_more = omega (arith, count, before); alone = alone-marked r d d true alone },
+      record { valid = region-marked r d true w.region within alone; within = within; was_dead = dead; is_now = refl; same_room = same; one_more = omega (arith, count, before); alone = alone-marked r d d true alone },
       record {
         region = region-marked r d true w.region within alone;
         free = record {

@@ -1,3 +1,4 @@
+pub mod Plane
 pub mod Region
 pub mod Room
 pub mod View

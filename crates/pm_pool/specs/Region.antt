@@ -50,6 +50,7 @@ with_live r d live = record { live = set r.live d live; next = r.next; prev = r.
 
 -- a dart that wasn't live is, and all else is as it was: so it is alone
 pub record IsTaken (before after : Region) (d : ℕ) : Type 0 where
+  pub valid : IsRegion after
   pub within : d < room before
   pub was_dead : is_live before d ≡ false
   pub is_now : after ≡ with_live before d true

@@ -2,9 +2,11 @@
 #![tactic(auto)]
 
 mod links;
+mod plane;
 mod pool;
 mod room;
 
+pub use plane::PlaneDarts;
 pub use pool::{Dart, Pool};
 pub use room::{Room, Work};
 

@@ -1,0 +1,52 @@
+-- Plane regions: the live darts make one connected plane map, of which some darts may be stems (Edmonds 1960, Tutte 1963: maps
+-- as rotations; Euler's formula).
+use Rattle.std.specs.Prelude.{◌≡◌, ℕ, ◌+◌, ◌<◌, ◌&&◌, Bool, IsTrue, List, eqb, slice_index}
+use Rattle.pm_perm.specs.Count.{count_below}
+use Rattle.pm_perm.specs.CycleList.{IsCycleFrom}
+use Rattle.pm_perm.specs.Cycles.{leader}
+use Rattle.pm_perm.specs.PartMap.{PartMap, IsPartClosed, part_edges, part_face}
+use Rattle.pm_pool.specs.Region.{IsLive, IsRegion, IsTaken, Region, is_live, live_darts, room}
+
+-- the part map of all darts, in which a dart that isn't live is alone
+abbrev pub part_of : Region → PartMap
+part_of r = record { darts = room r; next = slice_index r.next; twin = slice_index r.twin }
+
+-- the face rule: the next dart around the face is the one after the twin
+abbrev pub face_rule : Region → ℕ → ℕ
+face_rule r = part_face (part_of r)
+
+-- How many cycles have a live dart. Where live darts lead to live ones, the leader of such a cycle, its least dart, is live, and
+-- the cycle is counted there.
+abbrev pub live_cycles : Region → (ℕ → ℕ) → ℕ
+live_cycles r f = count_below (λ d. is_live r d && eqb (leader (room r) f d) d) (room r)
+
+-- how many vertices, edges and faces: cycles of the rotation that have a live dart, pairs of different twins, and cycles of the
+-- face rule that have a live dart
+abbrev pub live_vertices : Region → ℕ
+live_vertices r = live_cycles r (slice_index r.next)
+
+abbrev pub live_edges : Region → ℕ
+live_edges r = part_edges (part_of r)
+
+abbrev pub live_faces : Region → ℕ
+live_faces r = live_cycles r (face_rule r)
+
+-- every set of darts, told by a test, that holds a live dart, and with a dart the next one and the twin, holds all live darts
+abbrev pub AreLiveConnected : Region → Type 0
+AreLiveConnected r = (holds : ℕ → Bool) → IsPartClosed (part_of r) holds → (from d : ℕ) → IsLive r from → IsLive r d → IsTrue (holds from) → IsTrue (holds d)
+
+-- a region with a live dart, whose live darts are connected and plane
+pub record IsPlaneRegion (r : Region) : Type 0 where
+  pub region : IsRegion r
+  pub some_live : 0 < live_darts r
+  pub connected : AreLiveConnected r
+  pub euler : live_vertices r + live_faces r ≡ live_edges r + 2
+
+-- the face of a dart as a list, from that dart on
+abbrev pub IsFaceFrom : Region → ℕ → List ℕ → Type 0
+IsFaceFrom r d darts = IsCycleFrom (face_rule r) d darts
+
+-- one dart of a region that had none is live, the one stem of the one vertex
+pub record IsStarted (before after : Region) (d : ℕ) : Type 0 where
+  pub plane : IsPlaneRegion after
+  pub taken : IsTaken before after d

@@ -1,0 +1,83 @@
+//! Plane maps in a pool.
+ghost use Rattle.std.specs.Prelude.{◌≡◌, ◌+◌, ◌<◌, slice_index};
+ghost use Rattle.pm_pool.specs.Plane.{IsPlaneRegion, IsStarted};
+ghost use Rattle.pm_pool.specs.Region.{IsCleared, IsLive, live_darts, room};
+
+use crate::pool::{Dart, Pool};
+use std::marker::Model;
+
+/// A connected plane map in a pool of its own. It has a dart, some of its darts may be stems, and it is plane after every call:
+/// the live darts are connected, and vertices and faces are as many as edges and two (Euler). No call takes memory, and each
+/// keeps the room. Contracts see it as the region of its pool.
+#[derive(Drop)]
+pub struct PlaneDarts {
+    pool: Pool,
+}
+
+impl Model for PlaneDarts {
+    ghost use Rattle.pm_pool.specs.Plane.{IsPlaneRegion};
+    ghost use Rattle.pm_pool.specs.Region.{Region};
+
+    ghost Value = { Region };
+
+    ghost view = { λ p. p.pool };
+
+    ghost invariant = { λ p. IsPlaneRegion p.pool };
+}
+
+impl PlaneDarts {
+    /// One vertex with one stem, in a pool with room for a dart, none of which is live.
+    pub fn start(pool: Pool) -> (PlaneDarts, Dart)
+        requires none_live { live_darts pool ≡ 0 }
+        requires room { 0 < room pool }
+        ensures { IsStarted pool result.0 result.1 }
+    {
+        let mut pool = pool;
+        let d = pool.take();
+        (PlaneDarts { pool }, d)
+    }
+
+    /// How many darts aren't live.
+    pub fn spare(&self) -> u32
+        ensures spare { result + live_darts self.now ≡ room self.now }
+        ensures plane { IsPlaneRegion self.now }
+    {
+        self.pool.spare()
+    }
+
+    /// The dart after a live dart around its vertex. It is live.
+    pub fn next(&self, d: Dart) -> Dart
+        requires { IsLive self.now d }
+        ensures value { result ≡ slice_index self.now.next d }
+        ensures live { IsLive self.now result }
+    {
+        self.pool.next(d)
+    }
+
+    /// The dart before a live dart around its vertex. It is live.
+    pub fn prev(&self, d: Dart) -> Dart
+        requires { IsLive self.now d }
+        ensures value { result ≡ slice_index self.now.prev d }
+        ensures live { IsLive self.now result }
+    {
+        self.pool.prev(d)
+    }
+
+    /// The twin of a live dart. It is live.
+    pub fn twin(&self, d: Dart) -> Dart
+        requires { IsLive self.now d }
+        ensures value { result ≡ slice_index self.now.twin d }
+        ensures live { IsLive self.now result }
+    {
+        self.pool.twin(d)
+    }
+
+    /// The pool with no live dart and its whole room.
+    pub fn end(self) -> Pool
+        ensures { IsCleared result (room self) }
+    {
+        let mut pool = self.pool;
+        pool.clear();
+        pool
+    }
+}
