@@ -1,3 +1,4 @@
 pub mod LoneDarts
 pub mod Planes
 pub mod Regions
+pub mod StemsAdded

@@ -1,7 +1,9 @@
 -- Laws of cycles and of part maps where one number is alone, and counts where only some numbers are live. They speak of no
 -- region: their place is beside the laws of part maps.
-use Rattle.std.proofs.Common.{◌≡◌, ◌≢◌, ℕ, zero, suc, ◌+◌, ◌<◌, ◌⊎◌, ◌&&◌, Bool, true, false, not, eqb, inl, inr, refl, sym, ap, ◌∙◌, arith, eq-eqb}
+use Rattle.std.proofs.Common.{◌≡◌, ◌≢◌, ℕ, zero, suc, ◌+◌, ◌<◌, ◌⊎◌, ◌&&◌, Bool, true, false, not, eqb, inl, inr, refl, sym, ap, ◌∙◌, arith, eq-eqb, List, [], ◌∷◌}
 use Rattle.pm_perm.specs.Count.{count_below}
+use Rattle.pm_perm.specs.CycleList.{IsCycleFrom}
+use Rattle.pm_perm.proofs.CycleLists.{cycle-splits, cycles-join}
 use Rattle.pm_perm.specs.Cycles.{IsInCycle, cycles, leader, repeated}
 use Rattle.pm_perm.specs.Exchange.{IsExchangeBelow}
 use Rattle.pm_perm.specs.Pairs.{IsInvolutionBelow}
@@ -55,3 +57,17 @@ product-exchange n s s' t t' at d v same h fixed x = record {
   elsewhere = λ k lt other neither. ap s' (same k)
       ∙ x.elsewhere (t k) (v.stays k lt) (λ e. other (sym (v.twice k lt) ∙ ap t e)) (λ e. neither (sym (v.twice k lt) ∙ ap t e ∙ fixed));
 }
+
+-- the cycle of a number that is alone, as a list
+pub lone-list : (f : ℕ → ℕ) (d : ℕ) → f d ≡ d → IsCycleFrom f d (d ∷ [])
+lone-list f d fixed = record { begins = refl; goes = λ k h. absurd (omega (arith, h)); ends = fixed; once = λ k h. absurd (omega (arith, h)) }
+
+-- one number that was alone comes into a cycle after a
+pub lone-joins : (n : ℕ) (f g : ℕ → ℕ) (a d : ℕ) (rest : List ℕ) → IsPermutationBelow n f → a < n → d < n → a ≢ d → f d ≡ d → IsExchangeBelow n f g a d
+    → IsCycleFrom f a (a ∷ rest) → IsCycleFrom g a (a ∷ d ∷ rest)
+lone-joins n f g a d rest p ha hd differ fixed x c = cycles-join n f g a d [] rest p ha hd x (lone-apart n f a d p ha differ fixed) c (lone-list f d fixed)
+
+-- and goes out of it
+pub lone-leaves : (n : ℕ) (f g : ℕ → ℕ) (a d : ℕ) (rest : List ℕ) → IsPermutationBelow n f → a < n → IsExchangeBelow n f g a d
+    → IsCycleFrom f a (a ∷ d ∷ rest) → IsCycleFrom g a (a ∷ rest)
+lone-leaves n f g a d rest p ha x c = (cycle-splits n f g a d [] rest p ha x c).0

@@ -25,7 +25,7 @@ live-image : (r : Region) (d e : ℕ) → IsLive r d → (is_live r e ≡ false 
 live-image r d e live same = elim (cases_Bool (is_live r e)) [ inl is_so ↦ is_so | inr isnt ↦ ap (is_live r) (same isnt) ∙ live ]
 
 -- a live dart leads to live darts
-live-next : (r : Region) (d : ℕ) → IsRegion r → IsLive r d → IsLive r (slice_index r.next d)
+pub live-next : (r : Region) (d : ℕ) → IsRegion r → IsLive r d → IsLive r (slice_index r.next d)
 live-next r d w live =
     let h : d < room r = live-within r d live in
     let h' : d < length r.next = omega (arith, h, w.next_length) in
@@ -41,7 +41,7 @@ live-prev r d w live =
     live-image r d (slice_index r.prev d) live
     (λ dead. sym (w.dead_alone (slice_index r.prev d) (omega (arith, stays, w.inverse.same_length, w.next_length)) dead).next ∙ w.inverse.undone d h')
 
-live-twin : (r : Region) (d : ℕ) → IsRegion r → IsLive r d → IsLive r (slice_index r.twin d)
+pub live-twin : (r : Region) (d : ℕ) → IsRegion r → IsLive r d → IsLive r (slice_index r.twin d)
 live-twin r d w live =
     let h : d < room r = live-within r d live in
     live-image r d (slice_index r.twin d) live (λ dead. sym (w.dead_alone (slice_index r.twin d) (w.twins.stays d h) dead).twin ∙ w.twins.twice d h)
@@ -81,7 +81,7 @@ count-marked r d live h =
 alone-marked : (r : Region) (d e : ℕ) (live : Bool) → IsAlone r e → IsAlone (with_live r d live) e
 alone-marked r d e live a = record { next = a.next; prev = a.prev; twin = a.twin }
 
-region-marked : (r : Region) (d : ℕ) (live : Bool) → IsRegion r → d < room r → IsAlone r d → IsRegion (with_live r d live)
+pub region-marked : (r : Region) (d : ℕ) (live : Bool) → IsRegion r → d < room r → IsAlone r d → IsRegion (with_live r d live)
 region-marked r d live w h alone =
     let same : length (set r.live d live) ≡ length r.live = length-set r.live d live in
     record {

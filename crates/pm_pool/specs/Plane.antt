@@ -1,9 +1,9 @@
 -- Plane regions: the live darts make one connected plane map, of which some darts may be stems (Edmonds 1960, Tutte 1963: maps
 -- as rotations; Euler's formula).
-use Rattle.std.specs.Prelude.{◌≡◌, ℕ, ◌+◌, ◌<◌, ◌&&◌, Bool, IsTrue, List, eqb, slice_index}
+use Rattle.std.specs.Prelude.{◌≡◌, ◌≢◌, ◌↔◌, ℕ, ◌+◌, ◌<◌, ◌&&◌, Bool, false, true, IsTrue, List, ◌∷◌, eqb, set, slice_index}
 use Rattle.pm_perm.specs.Count.{count_below}
 use Rattle.pm_perm.specs.CycleList.{IsCycleFrom}
-use Rattle.pm_perm.specs.Cycles.{leader}
+use Rattle.pm_perm.specs.Cycles.{leader, IsInCycle}
 use Rattle.pm_perm.specs.PartMap.{PartMap, IsPartClosed, part_edges, part_face}
 use Rattle.pm_pool.specs.Region.{IsLive, IsRegion, IsTaken, Region, is_live, live_darts, room}
 
@@ -50,3 +50,35 @@ IsFaceFrom r d darts = IsCycleFrom (face_rule r) d darts
 pub record IsStarted (before after : Region) (d : ℕ) : Type 0 where
   pub plane : IsPlaneRegion after
   pub taken : IsTaken before after d
+
+-- each face of a live dart is as before, but that of x
+abbrev pub KeepsOtherFaces : Region → Region → ℕ → Type 0
+KeepsOtherFaces before after x = (e : ℕ) (face : List ℕ) → IsLive before e → (IsInCycle (face_rule before) e x → ⊥) → (IsFaceFrom before e face ↔ IsFaceFrom after e face)
+
+-- A dart d that wasn't live is a stem directly after `at`, and all other links are as they were. In one face d comes after the
+-- twin of `at`, and the other faces stay.
+pub record IsStemAdded (before after : Region) (at d : ℕ) : Type 0 where
+  pub plane : IsPlaneRegion after
+  pub within : d < room before
+  pub was_dead : is_live before d ≡ false
+  pub now_live : after.live ≡ set before.live d true
+  pub same_twin : after.twin ≡ before.twin
+  pub stem : slice_index after.twin d ≡ d
+  pub after_at : slice_index after.next at ≡ d
+  pub after_new : slice_index after.next d ≡ slice_index before.next at
+  pub elsewhere : (e : ℕ) → e < room before → e ≢ at → e ≢ d → slice_index after.next e ≡ slice_index before.next e
+  pub face : (rest : List ℕ) → IsFaceFrom before (slice_index before.twin at) (slice_index before.twin at ∷ rest)
+      → IsFaceFrom after (slice_index before.twin at) (slice_index before.twin at ∷ d ∷ rest)
+  pub other_faces : KeepsOtherFaces before after (slice_index before.twin at)
+
+-- The stem d is closed out of its vertex and is live no more, and all other links are as they were. Its face, in which it comes
+-- after the twin of the dart before it, is without it, and the other faces stay.
+pub record IsStemDropped (before after : Region) (d : ℕ) : Type 0 where
+  pub plane : IsPlaneRegion after
+  pub live_no_more : after.live ≡ set before.live d false
+  pub same_twin : after.twin ≡ before.twin
+  pub closed : slice_index after.next (slice_index before.prev d) ≡ slice_index before.next d
+  pub elsewhere : (e : ℕ) → e < room before → e ≢ d → e ≢ slice_index before.prev d → slice_index after.next e ≡ slice_index before.next e
+  pub face : (rest : List ℕ) → IsFaceFrom before (slice_index before.twin (slice_index before.prev d)) (slice_index before.twin (slice_index before.prev d) ∷ d ∷ rest)
+      → IsFaceFrom after (slice_index before.twin (slice_index before.prev d)) (slice_index before.twin (slice_index before.prev d) ∷ rest)
+  pub other_faces : KeepsOtherFaces before after d

@@ -1,6 +1,6 @@
 //! Plane maps in a pool.
-ghost use Rattle.std.specs.Prelude.{◌≡◌, ◌+◌, ◌<◌, slice_index};
-ghost use Rattle.pm_pool.specs.Plane.{IsPlaneRegion, IsStarted};
+ghost use Rattle.std.specs.Prelude.{◌≡◌, ◌≢◌, ◌+◌, ◌<◌, slice_index};
+ghost use Rattle.pm_pool.specs.Plane.{IsPlaneRegion, IsStarted, IsStemAdded, IsStemDropped};
 ghost use Rattle.pm_pool.specs.Region.{IsCleared, IsLive, live_darts, room};
 
 use crate::pool::{Dart, Pool};
@@ -70,6 +70,28 @@ impl PlaneDarts {
         ensures live { IsLive self.now result }
     {
         self.pool.twin(d)
+    }
+
+    /// A new stem directly after a live dart. There must be a spare dart.
+    pub fn add_stem(&mut self, at: Dart) -> Dart
+        requires live { IsLive self.old at }
+        requires spare { live_darts self.old < room self.old }
+        ensures { IsStemAdded self.old self.new at result }
+    {
+        let d = self.pool.take();
+        self.pool.insert_after(at, d);
+        d
+    }
+
+    /// Gives back a live stem whose vertex has another dart.
+    pub fn drop_stem(&mut self, d: Dart)
+        requires live { IsLive self.old d }
+        requires stem { slice_index self.old.twin d ≡ d }
+        requires not_alone { slice_index self.old.next d ≢ d }
+        ensures { IsStemDropped self.old self.new d }
+    {
+        self.pool.remove(d);
+        self.pool.give(d);
     }
 
     /// The pool with no live dart and its whole room.
