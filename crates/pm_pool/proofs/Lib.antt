@@ -2,3 +2,4 @@ pub mod LoneDarts
 pub mod Planes
 pub mod Regions
 pub mod StemsAdded
+pub mod Twins

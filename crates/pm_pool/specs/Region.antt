@@ -81,3 +81,14 @@ pub record IsCleared (r : Region) (darts : ℕ) : Type 0 where
   pub valid : IsRegion r
   pub as_many : room r ≡ darts
   pub none_live : (d : ℕ) → is_live r d ≡ false
+
+-- Two stems x and y of one region are twins in the other, and all else is the same: the other way, the edge of x and y is cut.
+pub record IsPaired (parted paired : Region) (x y : ℕ) : Type 0 where
+  pub same_live : paired.live ≡ parted.live
+  pub same_next : paired.next ≡ parted.next
+  pub same_prev : paired.prev ≡ parted.prev
+  pub first_stem : slice_index parted.twin x ≡ x
+  pub second_stem : slice_index parted.twin y ≡ y
+  pub first_twin : slice_index paired.twin x ≡ y
+  pub second_twin : slice_index paired.twin y ≡ x
+  pub elsewhere : (e : ℕ) → e < room parted → e ≢ x → e ≢ y → slice_index paired.twin e ≡ slice_index parted.twin e

@@ -1,6 +1,6 @@
 //! The store.
 ghost use Rattle.std.specs.Prelude.{◌≡◌, ◌≢◌, ◌+◌, ◌<◌, ◌^◌, false, length, slice_index, IfOk};
-ghost use Rattle.pm_pool.specs.Region.{IsAlone, IsCleared, IsInserted, IsLive, IsRegion, IsRemoved, IsTaken, live_darts, room, with_live};
+ghost use Rattle.pm_pool.specs.Region.{IsAlone, IsCleared, IsInserted, IsLive, IsPaired, IsRegion, IsRemoved, IsTaken, live_darts, room, with_live};
 
 use crate::links::{numbers_below, relink, write_numbers};
 use std::alloc::{AllocError, Global};
@@ -116,6 +116,32 @@ impl Pool {
     {
         let before = self.prev[d as usize];
         relink(&mut self.next, &mut self.prev, before, d);
+    }
+
+    /// Makes two different live stems twins.
+    pub(crate) fn pair(&mut self, x: Dart, y: Dart)
+        requires first { IsLive self.old x }
+        requires second { IsLive self.old y }
+        requires differ { x ≢ y }
+        requires first_stem { slice_index self.old.twin x ≡ x }
+        requires second_stem { slice_index self.old.twin y ≡ y }
+        ensures valid { IsRegion self.new }
+        ensures paired { IsPaired self.old self.new x y }
+    {
+        self.twin[x as usize] = y;
+        self.twin[y as usize] = x;
+    }
+
+    /// Makes a live dart that is no stem, and its twin, two stems.
+    pub(crate) fn part(&mut self, x: Dart)
+        requires live { IsLive self.old x }
+        requires no_stem { slice_index self.old.twin x ≢ x }
+        ensures valid { IsRegion self.new }
+        ensures parted { IsPaired self.new self.old x (slice_index self.old.twin x) }
+    {
+        let y = self.twin[x as usize];
+        self.twin[x as usize] = x;
+        self.twin[y as usize] = y;
     }
 
     /// The dart after a live dart around its vertex. It is live.
