@@ -1,6 +1,6 @@
 #!/usr/bin/env bash
-# Runs `census` on the real process for each class and size of the table, and compares: how many maps it prints, their line
-# `lists`, and the line `total`. The table has each size of `general` and `quartic` that has few enough lists, and each
+# Runs `census` on the real process for each class and size of the table, and compares: how many different maps it prints, their
+# lines `lists`, the line `total` and the status. The table has each size of `general` and `quartic` that has few enough lists, and each
 # profile of `eulerian` and `bipartite` with at most 4 edges. Its numbers are those of formulas:
 #
 #   n edges, or n vertices of degree 4   2 * 3^n * C(2n, n) / ((n + 1) * (n + 2)) maps (Tutte), 2 * 3^n * (2n)! / n! lists
@@ -20,16 +20,22 @@ fi
 passed=0
 failed=0
 
-# What is seen of a census: how many maps it prints, its lines `lists`, each once, and its last line.
+# What is seen of a census: how many different maps it prints, each of its lines `lists` with how often it stands there, its last
+# line, and its status.
 seen() {
-    "$program" census "$1" "$2" | awk '
-        $1 == "map" { maps++ }
-        $1 == "lists" && !($0 in had) { had[$0]; lines = lines $0 "; " }
-        END { print maps " maps; " lines $0 }'
+    local text status
+    text=$("$program" census "$1" "$2")
+    status=$?
+    printf '%s\n' "$text" | awk -v status="$status" '
+        $1 == "map" { map = "" }
+        $1 == "v" { map = map $0 ";" }
+        $1 == "end" && !(map in maps) { maps[map]; different++ }
+        $1 == "lists" { lines[$0]++ }
+        END { printf "%d maps; ", different; for (line in lines) printf "%s, %d times; ", line, lines[line]; print $0 "; status " status }'
 }
 
 while read -r class size maps lists; do
-    wanted="$maps maps; lists $((lists / maps)); total $maps $lists"
+    wanted="$maps maps; lists $((lists / maps)), $maps times; total $maps $lists; status 0"
     got=$(seen "$class" "$size")
     if [ "$got" = "$wanted" ]; then
         passed=$((passed + 1))

@@ -115,13 +115,14 @@ fn write_line<E: Sink>(err: &mut E, line: &[u8])
 /// Does all that the program does: takes the words after the program's name, fewer than 2^32, reads `input`, writes the
 /// answer to `out` and, where there is none, a line to `err`, and answers the status.
 ///
-/// All input is read before the first write; a command that draws reads nothing, and `draw` writes record by record. The
-/// statuses are 0 for an answer; 2 for words that are no command; 3, 4, 6, 7 and 12 for a file that is refused by its text,
-/// its list, its map, a limit or the tree's rules; 5 where `input` failed, 8 where `out` failed and 9 where memory was
-/// wanting, which may show before anything is read where a word spells a profile. A failing `err` changes no status.
+/// All input is read before the first write; `draw`, `trip` and `census` read nothing, and `draw` and `census` write record by
+/// record. The statuses are 0 for an answer; 2 for words that are no command; 3, 4, 6, 7 and 12 for a file that is refused by
+/// its text, its list, its map, a limit or the tree's rules, 7 also for a census of too many lists; 5 where `input` failed, 8
+/// where `out` failed and 9 where memory was wanting, which may show before anything is read where a word spells a profile. A
+/// failing `err` changes no status.
 ///
-/// At 8 there is an answer, and a front of it was added to `out`. At 9 nothing was added, or by `draw` the first records
-/// of the answer, which there is.
+/// At 8 there is an answer, and a front of it was added to `out`. At 9 nothing was added, or by `draw` and `census` the first
+/// records of the answer, which there is.
 pub fn run<S: Source, O: Sink, E: Sink>(
     alloc: Global,
     words: &[String],
