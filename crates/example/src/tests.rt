@@ -35,7 +35,10 @@ fn reads_a_map_file(rt: HostRuntime) -> Result<(), Fail> {
     let file = "map 1 1\nv 1\nv 0\nend\n";
     let (map, residue) = read_map_file(rt.alloc(), file.as_bytes(), 1_000)?;
     assert!(rt; residue.is_none());
-    assert_eq!(rt; canonical_bytes(rt.alloc(), &map)?.as_slice(), "map 1 0\nv 0\nv 1\nend\n".as_bytes());
+    assert_eq!(rt;
+        canonical_bytes(rt.alloc(), &map)?.as_slice(),
+        "map 1 0\nv 0\nv 1\nend\n".as_bytes()
+    );
     Ok(())
 }
 
@@ -43,7 +46,10 @@ fn reads_a_map_file(rt: HostRuntime) -> Result<(), Fail> {
 fn finds_layers(rt: HostRuntime) -> Result<(), Fail> {
     let sigma = Vec::from_slice(rt.alloc(), &[2, 4, 0, 5, 1, 3])?;
     let map = RootedMap::from_parts(rt.alloc(), sigma, 0)?;
-    assert_eq!(rt; layers(rt.alloc(), &map)?.distances(), [0, 1, 1, 0, 0, 1].as_slice());
+    assert_eq!(rt;
+        layers(rt.alloc(), &map)?.distances(),
+        [0, 1, 1, 0, 0, 1].as_slice()
+    );
     Ok(())
 }
 
