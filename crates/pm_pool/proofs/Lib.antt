@@ -1,3 +1,4 @@
+pub mod EdgesMade
 pub mod LoneDarts
 pub mod Planes
 pub mod Regions

@@ -1,6 +1,6 @@
 -- Laws of cycles and of part maps where one number is alone, and counts where only some numbers are live. They speak of no
 -- region: their place is beside the laws of part maps.
-use Rattle.std.proofs.Common.{◌≡◌, ◌≢◌, ℕ, zero, suc, ◌+◌, ◌<◌, ◌⊎◌, ◌&&◌, Bool, true, false, not, eqb, inl, inr, refl, sym, ap, ◌∙◌, arith, eq-eqb, List, [], ◌∷◌}
+use Rattle.std.proofs.Common.{IsTrue, subst, ◌≡◌, ◌≢◌, ℕ, zero, suc, ◌+◌, ◌<◌, ◌⊎◌, ◌&&◌, Bool, true, false, not, eqb, inl, inr, refl, sym, ap, ◌∙◌, arith, eq-eqb, List, [], ◌∷◌}
 use Rattle.pm_perm.specs.Count.{count_below}
 use Rattle.pm_perm.specs.CycleList.{IsCycleFrom}
 use Rattle.pm_perm.proofs.CycleLists.{cycle-splits, cycles-join}
@@ -71,3 +71,7 @@ lone-joins n f g a d rest p ha hd differ fixed x c = cycles-join n f g a d [] re
 pub lone-leaves : (n : ℕ) (f g : ℕ → ℕ) (a d : ℕ) (rest : List ℕ) → IsPermutationBelow n f → a < n → IsExchangeBelow n f g a d
     → IsCycleFrom f a (a ∷ d ∷ rest) → IsCycleFrom g a (a ∷ rest)
 lone-leaves n f g a d rest p ha x c = (cycle-splits n f g a d [] rest p ha x c).0
+
+-- a test along an equation
+pub holds_at : (holds : ℕ → Bool) (a b : ℕ) → a ≡ b → IsTrue (holds a) → IsTrue (holds b)
+holds_at holds a b e h = subst (λ k. IsTrue (holds k)) e h

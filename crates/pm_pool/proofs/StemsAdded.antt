@@ -14,7 +14,7 @@ use Rattle.pm_perm.proofs.Merged.{exchange-back, exchange-permutes}
 use Rattle.pm_perm.proofs.PartMaps.{part_face-permutes}
 use Rattle.pm_pool.specs.Plane.{AreLiveConnected, IsFaceFrom, IsPlaneRegion, IsStemAdded, IsStemDropped, face_rule, live_edges, live_faces, live_vertices, part_of}
 use Rattle.pm_pool.specs.Region.{IsAlone, IsInserted, IsLive, IsRegion, IsRemoved, IsTaken, Region, is_live, live_darts, room, with_live}
-use Rattle.pm_pool.proofs.LoneDarts.{lone-apart, lone-fewer, lone-joins, lone-leaves, product-exchange}
+use Rattle.pm_pool.proofs.LoneDarts.{holds_at, lone-apart, lone-fewer, lone-joins, lone-leaves, product-exchange}
 use Rattle.pm_pool.proofs.Planes.{dead-face, euler-all, euler-live, region-part}
 use Rattle.pm_pool.proofs.Regions.{live-next, live-prev, live-twin, live-within, region-marked}
 
@@ -87,10 +87,6 @@ dropped-euler r r' at d w e =
     let c = added-counts r r' at d w in
     let all = euler-all r' w.after e in
     euler-live r w.before (omega (arith, all, c.vertices, c.edges, c.faces, c.darts, w.same_room))
-
--- a test along an equation
-holds_at : (holds : ℕ → Bool) (a b : ℕ) → a ≡ b → IsTrue (holds a) → IsTrue (holds b)
-holds_at holds a b e h = subst (λ k. IsTrue (holds k)) e h
 
 -- what is closed with the new dart is closed without it
 added-closed : (r r' : Region) (at d : ℕ) (holds : ℕ → Bool) → IsAdded r r' at d → IsPartClosed (part_of r') holds → IsPartClosed (part_of r) holds

@@ -1,11 +1,11 @@
 -- Plane regions: the live darts make one connected plane map, of which some darts may be stems (Edmonds 1960, Tutte 1963: maps
 -- as rotations; Euler's formula).
-use Rattle.std.specs.Prelude.{◌≡◌, ◌≢◌, ◌↔◌, ℕ, ◌+◌, ◌<◌, ◌&&◌, Bool, false, true, IsTrue, List, ◌∷◌, eqb, set, slice_index}
+use Rattle.std.specs.Prelude.{◌≡◌, ◌≢◌, ◌↔◌, ℕ, ◌+◌, ◌<◌, ◌&&◌, Bool, false, true, IsTrue, List, ◌∷◌, ◌++◌, eqb, set, slice_index}
 use Rattle.pm_perm.specs.Count.{count_below}
 use Rattle.pm_perm.specs.CycleList.{IsCycleFrom}
 use Rattle.pm_perm.specs.Cycles.{leader, IsInCycle}
 use Rattle.pm_perm.specs.PartMap.{PartMap, IsPartClosed, part_edges, part_face}
-use Rattle.pm_pool.specs.Region.{IsLive, IsRegion, IsTaken, Region, is_live, live_darts, room}
+use Rattle.pm_pool.specs.Region.{IsLive, IsPaired, IsRegion, IsTaken, Region, is_live, live_darts, room}
 
 -- the part map of all darts, in which a dart that isn't live is alone
 abbrev pub part_of : Region → PartMap
@@ -82,3 +82,22 @@ pub record IsStemDropped (before after : Region) (d : ℕ) : Type 0 where
   pub face : (rest : List ℕ) → IsFaceFrom before (slice_index before.twin (slice_index before.prev d)) (slice_index before.twin (slice_index before.prev d) ∷ d ∷ rest)
       → IsFaceFrom after (slice_index before.twin (slice_index before.prev d)) (slice_index before.twin (slice_index before.prev d) ∷ rest)
   pub other_faces : KeepsOtherFaces before after d
+
+-- Two stems x and y of one face are twins, and all else is the same. The face, which from x on is x, `first`, y and `second`,
+-- becomes that of x and `second` and that of y and `first`, and the other faces stay.
+pub record IsEdgeJoined (before after : Region) (x y : ℕ) : Type 0 where
+  pub plane : IsPlaneRegion after
+  pub paired : IsPaired before after x y
+  pub apart : IsInCycle (face_rule after) x y → ⊥
+  pub faces : (first second : List ℕ) → IsFaceFrom before x (x ∷ first ++ y ∷ second) → IsFaceFrom after x (x ∷ second) × IsFaceFrom after y (y ∷ first)
+  pub other_faces : KeepsOtherFaces before after x
+
+-- The edge of x and y, whose faces differ, is made two stems, and all else is the same. The face of x and `second` and that of y
+-- and `first` become one, which from x on is x, `first`, y and `second`; the other faces stay.
+pub record IsEdgeCut (before after : Region) (x y : ℕ) : Type 0 where
+  pub plane : IsPlaneRegion after
+  pub parted : IsPaired after before x y
+  pub one_face : IsInCycle (face_rule after) x y
+  pub face : (first second : List ℕ) → IsFaceFrom before x (x ∷ second) → IsFaceFrom before y (y ∷ first) → IsFaceFrom after x (x ∷ first ++ y ∷ second)
+  pub other_faces : (e : ℕ) (face : List ℕ) → IsLive before e → (IsInCycle (face_rule before) e x → ⊥) → (IsInCycle (face_rule before) e y → ⊥)
+      → (IsFaceFrom before e face ↔ IsFaceFrom after e face)

@@ -1,6 +1,7 @@
 //! Plane maps in a pool.
 ghost use Rattle.std.specs.Prelude.{◌≡◌, ◌≢◌, ◌+◌, ◌<◌, slice_index};
-ghost use Rattle.pm_pool.specs.Plane.{IsPlaneRegion, IsStarted, IsStemAdded, IsStemDropped};
+ghost use Rattle.pm_perm.specs.Cycles.{IsInCycle};
+ghost use Rattle.pm_pool.specs.Plane.{IsEdgeCut, IsEdgeJoined, IsPlaneRegion, IsStarted, IsStemAdded, IsStemDropped, face_rule};
 ghost use Rattle.pm_pool.specs.Region.{IsCleared, IsLive, live_darts, room};
 
 use crate::pool::{Dart, Pool};
@@ -92,6 +93,28 @@ impl PlaneDarts {
     {
         self.pool.remove(d);
         self.pool.give(d);
+    }
+
+    /// Makes two different live stems of one face twins. The face falls into two.
+    pub fn join(&mut self, x: Dart, y: Dart)
+        requires first { IsLive self.old x }
+        requires second { IsLive self.old y }
+        requires differ { x ≢ y }
+        requires first_stem { slice_index self.old.twin x ≡ x }
+        requires second_stem { slice_index self.old.twin y ≡ y }
+        requires one_face { IsInCycle (face_rule self.old) x y }
+        ensures { IsEdgeJoined self.old self.new x y }
+    {
+        self.pool.pair(x, y);
+    }
+
+    /// Makes a live dart and its twin, which are in two faces, two stems. The two faces become one.
+    pub fn cut(&mut self, x: Dart)
+        requires live { IsLive self.old x }
+        requires two_faces { IsInCycle (face_rule self.old) x (slice_index self.old.twin x) → ⊥ }
+        ensures { IsEdgeCut self.old self.new x (slice_index self.old.twin x) }
+    {
+        self.pool.part(x);
     }
 
     /// The pool with no live dart and its whole room.
