@@ -17,7 +17,7 @@ use Rattle.pm_pool.proofs.Regions.{live-within}
 use Rattle.pm_pool.proofs.Twins.{paired-joined}
 
 -- what is closed in the joined part map is closed in the parted one
-joined-closed : (m m' : PartMap) (x y : ℕ) (holds : ℕ → Bool) → IsJoined m m' x y → IsPartClosed m' holds → IsPartClosed m holds
+pub joined-closed : (m m' : PartMap) (x y : ℕ) (holds : ℕ → Bool) → IsJoined m m' x y → IsPartClosed m' holds → IsPartClosed m holds
 joined-closed m m' x y holds j closed = record {
   under_next = λ d h here. holds_at holds (m'.next d) (m.next d) (j.same_next d h) (closed.under_next d (omega (arith, h, j.same_darts)) here);
   under_twin = λ d h here. elim (cases_eq d x) [
@@ -59,7 +59,7 @@ parted-closed m m' x y holds p j one closed = record {
 live-kept : (live live' : List Bool) → live' ≡ live → (d : ℕ) → get_or live' d false ≡ true → get_or live d false ≡ true
 live-kept live live' same d h = ap (λ (l : List Bool). get_or l d false) (sym same) ∙ h
 
-darts-kept : (r r' : Region) → r'.live ≡ r.live → live_darts r' ≡ live_darts r
+pub darts-kept : (r r' : Region) → r'.live ≡ r.live → live_darts r' ≡ live_darts r
 darts-kept r r' same = ap (λ (l : List Bool). count_below (λ d. get_or l d false) (length l)) same
 
 -- two stems of one face of a plane region that are made twins

@@ -1,3 +1,4 @@
+pub mod EdgesGrown
 pub mod EdgesMade
 pub mod LoneDarts
 pub mod Planes

@@ -101,3 +101,18 @@ pub record IsEdgeCut (before after : Region) (x y : ℕ) : Type 0 where
   pub face : (first second : List ℕ) → IsFaceFrom before x (x ∷ second) → IsFaceFrom before y (y ∷ first) → IsFaceFrom after x (x ∷ first ++ y ∷ second)
   pub other_faces : (e : ℕ) (face : List ℕ) → IsLive before e → (IsInCycle (face_rule before) e x → ⊥) → (IsInCycle (face_rule before) e y → ⊥)
       → (IsFaceFrom before e face ↔ IsFaceFrom after e face)
+
+-- A dart y that wasn't live is alone around a new vertex, and the twin of the stem x; all other links are as they were. In the
+-- face of x it comes after x, and the other faces stay.
+pub record IsEdgeGrown (before after : Region) (x y : ℕ) : Type 0 where
+  pub plane : IsPlaneRegion after
+  pub within : y < room before
+  pub was_dead : is_live before y ≡ false
+  pub now_live : after.live ≡ set before.live y true
+  pub same_next : after.next ≡ before.next
+  pub new_vertex : slice_index after.next y ≡ y
+  pub first_twin : slice_index after.twin x ≡ y
+  pub second_twin : slice_index after.twin y ≡ x
+  pub elsewhere : (e : ℕ) → e < room before → e ≢ x → e ≢ y → slice_index after.twin e ≡ slice_index before.twin e
+  pub face : (rest : List ℕ) → IsFaceFrom before x (x ∷ rest) → IsFaceFrom after x (x ∷ y ∷ rest)
+  pub other_faces : KeepsOtherFaces before after x

@@ -1,7 +1,7 @@
 //! Plane maps in a pool.
 ghost use Rattle.std.specs.Prelude.{◌≡◌, ◌≢◌, ◌+◌, ◌<◌, slice_index};
 ghost use Rattle.pm_perm.specs.Cycles.{IsInCycle};
-ghost use Rattle.pm_pool.specs.Plane.{IsEdgeCut, IsEdgeJoined, IsPlaneRegion, IsStarted, IsStemAdded, IsStemDropped, face_rule};
+ghost use Rattle.pm_pool.specs.Plane.{IsEdgeCut, IsEdgeGrown, IsEdgeJoined, IsPlaneRegion, IsStarted, IsStemAdded, IsStemDropped, face_rule};
 ghost use Rattle.pm_pool.specs.Region.{IsCleared, IsLive, live_darts, room};
 
 use crate::pool::{Dart, Pool};
@@ -93,6 +93,18 @@ impl PlaneDarts {
     {
         self.pool.remove(d);
         self.pool.give(d);
+    }
+
+    /// A new vertex with one dart, the twin of a live stem. There must be a spare dart.
+    pub fn grow_edge(&mut self, x: Dart) -> Dart
+        requires live { IsLive self.old x }
+        requires stem { slice_index self.old.twin x ≡ x }
+        requires spare { live_darts self.old < room self.old }
+        ensures { IsEdgeGrown self.old self.new x result }
+    {
+        let y = self.pool.take();
+        self.pool.pair(x, y);
+        y
     }
 
     /// Makes two different live stems of one face twins. The face falls into two.
