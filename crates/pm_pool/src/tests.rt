@@ -1,5 +1,5 @@
 //! A pool and a room at real values.
-use super::{Pool, Room};
+use super::{PlaneDarts, Pool, Room};
 use std::test::Fail;
 
 #[test]
@@ -39,5 +39,18 @@ fn lends_its_work(rt: HostRuntime) -> Result<(), Fail> {
     assert_eq!(rt; work.stack.len(), 8);
     room.give_back(work);
     assert_eq!(rt; room.edges(), 4);
+    Ok(())
+}
+
+#[test]
+fn starts_with_a_stem(rt: HostRuntime) -> Result<(), Fail> {
+    let pool = Pool::with_room(rt.alloc(), 3)?;
+    assert_eq!(rt; pool.spare(), 3);
+    let (plane, d) = PlaneDarts::start(pool);
+    assert_eq!(rt; plane.spare(), 2);
+    assert_eq!(rt; plane.next(d), d);
+    assert_eq!(rt; plane.twin(d), d);
+    let pool = plane.end();
+    assert_eq!(rt; pool.spare(), 3);
     Ok(())
 }
