@@ -1,5 +1,5 @@
 pub mod BackCounts
-mod ClosingLaws
+pub mod ClosingLaws
 mod CountsRead
 pub mod Fronts
 pub mod HighCorners

@@ -24,13 +24,13 @@ meets_ahead places p q e s inside after rises held =
     record { stem = e; steps = q - p; is = omega arith; within = inside; sum = r.sum; is_first = r.is_first }
 
 module _ (word : List ℕ) (t : IsStemTree word) (b : IsBalanced (contour word)) where
-  w : IsFalling (contour word)
+  pub w : IsFalling (contour word)
   w = tree_falls word t
 
-  filled : 0 < length word
+  pub filled : 0 < length word
   filled = let some = w.some in omega arith
 
-  long : length (contour (whole word)) ≡ length word + 4
+  pub long : length (contour (whole word)) ≡ length word + 4
   long =
       let some = filled in
       let a = length-append (take (length word - 1) word) (OPEN ∷ OPEN ∷ CLOSE ∷ CLOSE ∷ []) in
@@ -39,14 +39,14 @@ module _ (word : List ℕ) (t : IsStemTree word) (b : IsBalanced (contour word))
       omega (arith, a, c, d)
 
   -- the letters before the last one are kept
-  letter_kept : (k : ℕ) → k < length word → slice_index (contour (whole word)) k ≡ slice_index (contour word) k
+  pub letter_kept : (k : ℕ) → k < length word → slice_index (contour (whole word)) k ≡ slice_index (contour word) k
   letter_kept zero l = refl
   letter_kept (suc k) l =
       let c : length (take (length word - 1) word) ≡ length word - 1 = length-take-le (length word - 1) word (omega arith) in
       get_or_append_left (take (length word - 1) word) (OPEN ∷ OPEN ∷ CLOSE ∷ CLOSE ∷ []) 0 k (omega (arith, c)) ∙ get_or-take (length word - 1) word k 0 (omega arith)
 
   -- and then come new ones
-  letter_new : (j : ℕ) → j < 4 → slice_index (contour (whole word)) (length word + j) ≡ slice_index (OPEN ∷ OPEN ∷ CLOSE ∷ CLOSE ∷ []) j
+  pub letter_new : (j : ℕ) → j < 4 → slice_index (contour (whole word)) (length word + j) ≡ slice_index (OPEN ∷ OPEN ∷ CLOSE ∷ CLOSE ∷ []) j
   letter_new j l =
       let some = filled in
       let c : length (take (length word - 1) word) ≡ length word - 1 = length-take-le (length word - 1) word (omega arith) in
