@@ -1,0 +1,6 @@
+mod AheadStems
+mod InTree
+mod Numbers
+mod TreeDarts
+mod WholeBrackets
+mod WholeOf

@@ -1,0 +1,2 @@
+//! The closure of balanced stem trees, from which simple triangulations come: its definition, and that of its whole tree.
+#![tactic(auto)]
