@@ -6,12 +6,8 @@
 #
 # The last line counts the rows. Status 0: each row passed. Status 1: one failed. Status 2: there is no program.
 set -u
-top=$(cd "$(dirname "$0")/.." && pwd) || exit 2
-program=${1:-$top/crates/planarmap/out/planarmap}
-if [ ! -x "$program" ]; then
-    echo "tests/process.sh: no program at $program" >&2
-    exit 2
-fi
+# shellcheck source=tests/program.sh
+. "$(dirname "$0")/program.sh"
 folder=$(mktemp -d) || exit 2
 trap 'rm -rf "$folder"' EXIT
 passed=0
