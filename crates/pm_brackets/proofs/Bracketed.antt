@@ -13,8 +13,8 @@ record HasPairing (plant : ℕ) (word : List ℕ) (i : ℕ) : Type 0 where
   open_places : List ℕ
   state : IsPairing plant word other open_places i
 
-front_and_last : (xs : List ℕ) → 0 < length xs → xs ≡ take (length xs - 1) xs ++ get_or xs (length xs - 1) 0 ∷ []
-front_and_last xs some =
+prefix_and_last : (xs : List ℕ) → 0 < length xs → xs ≡ take (length xs - 1) xs ++ get_or xs (length xs - 1) 0 ∷ []
+prefix_and_last xs some =
     let whole : suc (length xs - 1) ≡ length xs = omega arith in
     sym (ap (λ (n : ℕ). take n xs) whole ∙ take_all (length xs) xs (omega arith)) ∙ take-suc xs (length xs - 1) 0 (omega arith)
 
@@ -25,7 +25,7 @@ read_closing plant bare word i m e h =
     record {
       other = set h.other opener (suc i) ++ opener ∷ [];
       open_places = take (length h.open_places - 1) h.open_places;
-      state = pairing_close plant word h.other _ h.open_places _ (Some opener) opener i (suc i) (suc i) e (front_and_last h.open_places some) refl refl refl refl h.state;
+      state = pairing_close plant word h.other _ h.open_places _ (Some opener) opener i (suc i) (suc i) e (prefix_and_last h.open_places some) refl refl refl refl h.state;
     }
 
 read_letter : (plant : ℕ) → IsOther plant → (word : List ℕ) (i : ℕ) → IsMatched word → HasPairing plant word i → HasPairing plant word (suc i)

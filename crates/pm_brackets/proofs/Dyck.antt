@@ -49,7 +49,7 @@ level_flat : (d : ℕ) (xs : List ℕ) → IsLevel d xs → d ≡ zero → IsDyc
 level_flat _ _ (flat xs a) h = a
 level_flat _ _ (deep d xs ys a b) h = absurd (omega arith)
 
--- no front of the text closes more than there is open
+-- no prefix of the text closes more than there is open
 pub record IsAbove (d : ℕ) (xs : List ℕ) : Type 0 where
   pub never_below : (k : ℕ) → tally CLOSE (take k xs) ≤ d + tally OPEN (take k xs)
 
@@ -167,11 +167,11 @@ closing_before d _ zs (letter x xs o a) c =
           let e = tally_no CLOSE x (xs ++ zs) o.not_close in
           let f = tally_no OPEN x (xs ++ zs) o.not_open in
           omega (arith, p, e, f);
-      above = record { never_below = λ k. letter_front k x (xs ++ zs) o h.above };
+      above = record { never_below = λ k. letter_prefix k x (xs ++ zs) o h.above };
     } where
-      letter_front : (k x : ℕ) (ys : List ℕ) → IsOther x → IsAbove d ys → tally CLOSE (take k (x ∷ ys)) ≤ d + tally OPEN (take k (x ∷ ys))
-      letter_front zero x ys o h = let e = tally-nil CLOSE in omega (arith, e)
-      letter_front (suc k) x ys o h =
+      letter_prefix : (k x : ℕ) (ys : List ℕ) → IsOther x → IsAbove d ys → tally CLOSE (take k (x ∷ ys)) ≤ d + tally OPEN (take k (x ∷ ys))
+      letter_prefix zero x ys o h = let e = tally-nil CLOSE in omega (arith, e)
+      letter_prefix (suc k) x ys o h =
           let p = h.never_below k in
           let e = tally_no CLOSE x (take k ys) o.not_close in
           let f = tally_no OPEN x (take k ys) o.not_open in
@@ -179,17 +179,17 @@ closing_before d _ zs (letter x xs o a) c =
 closing_before d _ zs (bracket xs ys a b) c =
     let h = closing_before (suc d) xs (CLOSE ∷ (ys ++ zs)) a (closing_with_close d (ys ++ zs) (closing_before d ys zs b c)) in
     subst (IsClosing d) (sym (bracket_then xs ys zs)) (closing_with_open d (xs ++ CLOSE ∷ (ys ++ zs)) h) where
-      close_front : (d k : ℕ) (ys : List ℕ) → IsAbove d ys → tally CLOSE (take k (CLOSE ∷ ys)) ≤ suc d + tally OPEN (take k (CLOSE ∷ ys))
-      close_front d zero ys h = let e = tally-nil CLOSE in omega (arith, e)
-      close_front d (suc k) ys h =
+      close_prefix : (d k : ℕ) (ys : List ℕ) → IsAbove d ys → tally CLOSE (take k (CLOSE ∷ ys)) ≤ suc d + tally OPEN (take k (CLOSE ∷ ys))
+      close_prefix d zero ys h = let e = tally-nil CLOSE in omega (arith, e)
+      close_prefix d (suc k) ys h =
           let p = h.never_below k in
           let e = tally_yes CLOSE CLOSE (take k ys) refl in
           let f = tally_no OPEN CLOSE (take k ys) (λ w. omega arith) in
           omega (arith, p, e, f)
 
-      open_front : (d k : ℕ) (ys : List ℕ) → IsAbove (suc d) ys → tally CLOSE (take k (OPEN ∷ ys)) ≤ d + tally OPEN (take k (OPEN ∷ ys))
-      open_front d zero ys h = let e = tally-nil CLOSE in omega (arith, e)
-      open_front d (suc k) ys h =
+      open_prefix : (d k : ℕ) (ys : List ℕ) → IsAbove (suc d) ys → tally CLOSE (take k (OPEN ∷ ys)) ≤ d + tally OPEN (take k (OPEN ∷ ys))
+      open_prefix d zero ys h = let e = tally-nil CLOSE in omega (arith, e)
+      open_prefix d (suc k) ys h =
           let p = h.never_below k in
           let e = tally_no CLOSE OPEN (take k ys) (λ w. omega arith) in
           let f = tally_yes OPEN OPEN (take k ys) refl in
@@ -202,7 +202,7 @@ closing_before d _ zs (bracket xs ys a b) c =
             let e = tally_yes CLOSE CLOSE ys refl in
             let f = tally_no OPEN CLOSE ys (λ w. omega arith) in
             omega (arith, p, e, f);
-        above = record { never_below = λ k. close_front d k ys h.above };
+        above = record { never_below = λ k. close_prefix d k ys h.above };
       }
 
       closing_with_open : (d : ℕ) (ys : List ℕ) → IsClosing (suc d) ys → IsClosing d (OPEN ∷ ys)
@@ -212,7 +212,7 @@ closing_before d _ zs (bracket xs ys a b) c =
             let e = tally_no CLOSE OPEN ys (λ w. omega arith) in
             let f = tally_yes OPEN OPEN ys refl in
             omega (arith, p, e, f);
-        above = record { never_below = λ k. open_front d k ys h.above };
+        above = record { never_below = λ k. open_prefix d k ys h.above };
       }
 
 closing_nothing : IsClosing 0 []

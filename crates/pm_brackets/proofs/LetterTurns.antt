@@ -125,14 +125,14 @@ module _ (letter : ℕ) (some : 0 < letter) (bare : IsOther letter) (xs other tu
             omega (arith, c, d)
       ]
 
-  front : (p : ℕ) → p + start ≤ length xs → seen letter turned p + seen letter xs start ≡ seen letter xs (start + p)
-  front zero l =
+  prefix : (p : ℕ) → p + start ≤ length xs → seen letter turned p + seen letter xs start ≡ seen letter xs (start + p)
+  prefix zero l =
       let e : start + 0 ≡ start = omega arith in
       let f = ap (seen letter xs) e in
       let g = seen_none letter turned in
       omega (arith, f, g)
-  front (suc p) l =
-      let h = front p (omega arith) in
+  prefix (suc p) l =
+      let h = prefix p (omega arith) in
       let e : start + suc p ≡ suc (start + p) = omega arith in
       let f = ap (seen letter xs) e in
       let g = one_step p (start + p) (omega arith) (mod_stays (start + p) (length xs) (omega arith)) in
@@ -140,7 +140,7 @@ module _ (letter : ℕ) (some : 0 < letter) (bare : IsOther letter) (xs other tu
 
   back : (p : ℕ) → p ≤ start → seen letter turned ((length xs - start) + p) + seen letter xs start ≡ count letter xs + seen letter xs p
   back zero l =
-      let h = front (length xs - start) (omega arith) in
+      let h = prefix (length xs - start) (omega arith) in
       let e : (length xs - start) + 0 ≡ length xs - start = omega arith in
       let f = ap (seen letter turned) e in
       let g : start + (length xs - start) ≡ length xs = omega arith in
@@ -170,7 +170,7 @@ module _ (letter : ℕ) (some : 0 < letter) (bare : IsOther letter) (xs other tu
           | inl m ↦
               let e : place_from xs start p ≡ start + p = mod_stays (start + p) (length xs) m in
               let moved : IsLetterAt letter xs number (start + p) = subst (IsLetterAt letter xs number) e h in
-              let f = front p (omega arith) in
+              let f = prefix p (omega arith) in
               let g = seen_counts letter xs (start + p) in
               let i = moved.before in
               let j = letter_few letter some xs number (start + p) moved in

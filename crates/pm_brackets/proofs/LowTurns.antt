@@ -10,7 +10,7 @@ use Rattle.pm_brackets.specs.Ring.{place_from, IsTurned}
 use Rattle.pm_brackets.specs.steps.TurnedLetter.{IsTurnedLetter}
 use Rattle.pm_brackets.proofs.Lows.{IsLow, low_start, low_other, low_open, low_close, low_sinks, back_other, back_close, back_open, back_sinks, no_opener_before, no_opener_behind, no_closer_behind, no_closer_before}
 use Rattle.pm_brackets.proofs.RingPlaces.{mod_stays, are_at, plain_letter}
-use Rattle.pm_brackets.proofs.Replants.{front_end}
+use Rattle.pm_brackets.proofs.Replants.{prefix_end}
 
 -- The letters of the word up to here are turned, behind the start.
 pub record IsAfter (plant : ℕ) (word : List ℕ) (start : ℕ) (letters : List ℕ) (i above : ℕ) : Type 0 where
@@ -150,9 +150,9 @@ module _ (plant : ℕ) (bare : IsOther plant) (word : List ℕ) (start : ℕ) (w
             let j : ℕ = k - length (drop start word) in
             let f = on_second (suc k) (omega arith) l in
             let e : place_from (plant ∷ word) start (suc k) ≡ j = omega (arith, f, long) in
-            let front : take start (plant ∷ word) ≡ plant ∷ take (start - 1) word =
+            let prefix : take start (plant ∷ word) ≡ plant ∷ take (start - 1) word =
             let n : start ≡ suc (start - 1) = omega arith in ap (λ (i : ℕ). take i (plant ∷ word)) n in
-            get_or-append_right (drop start word) (plant ∷ take (start - 1) word) k 0 (omega (arith, long)) ∙ ap (λ (xs : List ℕ). slice_index xs j) (sym front)
+            get_or-append_right (drop start word) (plant ∷ take (start - 1) word) k 0 (omega (arith, long)) ∙ ap (λ (xs : List ℕ). slice_index xs j) (sym prefix)
             ∙ get_or-take start (plant ∷ word) j 0 (omega (arith, long)) ∙ ap (slice_index (plant ∷ word)) (sym e)
       ]
 
@@ -286,7 +286,7 @@ module _ (plant : ℕ) (bare : IsOther plant) (word : List ℕ) (start : ℕ) (w
 
   pub turned_whole : (letters : List ℕ) (above : ℕ) → IsMatched word → IsBefore plant word start letters 0 above → IsTurned (plant ∷ word) start (plant ∷ letters)
   turned_whole letters above m h =
-      front_end plant bare word start letters (suc (length word)) m (omega arith) here (record {
+      prefix_end plant bare word start letters (suc (length word)) m (omega arith) here (record {
         as_long = ap suc h.as_long;
         each = λ k u.
             let long = h.as_long in

@@ -42,7 +42,7 @@ matched_inside plant bare word m = record {
 }
 
 -- the letters that were met so far
-pub record IsTurnedFront (plant : ℕ) (word : List ℕ) (start : ℕ) (letters : List ℕ) (steps : ℕ) : Type 0 where
+pub record IsTurnedPrefix (plant : ℕ) (word : List ℕ) (start : ℕ) (letters : List ℕ) (steps : ℕ) : Type 0 where
   pub as_long : suc (length letters) ≡ steps
   pub each : (k : ℕ) → k < length letters → IsTurnedLetter (plant ∷ word) start (suc k) (slice_index letters k)
 
@@ -63,15 +63,15 @@ module _ (plant : ℕ) (bare : IsOther plant) where
   ring_of_word [] l e = absurd (omega arith)
   ring_of_word (x ∷ xs) l e = ap (λ (y : ℕ). y ∷ xs) e
 
-  pub front_start : (word : List ℕ) (start : ℕ) (letters : List ℕ) (steps : ℕ) → letters ≡ [] → steps ≡ 1 → IsTurnedFront plant word start letters steps
-  front_start word start letters steps e f =
-      subst (λ (xs : List ℕ). IsTurnedFront plant word start xs steps) (sym e) (record { as_long = omega arith; each = λ k l. absurd (omega arith) })
+  pub prefix_start : (word : List ℕ) (start : ℕ) (letters : List ℕ) (steps : ℕ) → letters ≡ [] → steps ≡ 1 → IsTurnedPrefix plant word start letters steps
+  prefix_start word start letters steps e f =
+      subst (λ (xs : List ℕ). IsTurnedPrefix plant word start xs steps) (sym e) (record { as_long = omega arith; each = λ k l. absurd (omega arith) })
 
-  pub front_push : (word : List ℕ) (start : ℕ) (letters more : List ℕ) (steps next x : ℕ) → IsTurnedFront plant word start letters steps → IsTurnedLetter (plant ∷ word) start steps x → more ≡ letters ++ x ∷ [] → next ≡ suc steps → IsTurnedFront plant word start more next
-  front_push word start letters more steps next x h t e f =
+  pub prefix_push : (word : List ℕ) (start : ℕ) (letters more : List ℕ) (steps next x : ℕ) → IsTurnedPrefix plant word start letters steps → IsTurnedLetter (plant ∷ word) start steps x → more ≡ letters ++ x ∷ [] → next ≡ suc steps → IsTurnedPrefix plant word start more next
+  prefix_push word start letters more steps next x h t e f =
       let a = h.as_long in
       let b = length_push letters x in
-      subst (λ (xs : List ℕ). IsTurnedFront plant word start xs next) (sym e) (record {
+      subst (λ (xs : List ℕ). IsTurnedPrefix plant word start xs next) (sym e) (record {
         as_long = omega (arith, a, b, f);
         each = λ k l.
             elim (cases_lt k (length letters)) [
@@ -84,20 +84,20 @@ module _ (plant : ℕ) (bare : IsOther plant) where
             ];
       })
 
-  front_letter : (word : List ℕ) (start : ℕ) (letters : List ℕ) (steps p : ℕ) → start < length (plant ∷ word) → slice_index (plant ∷ word) start ≡ plant → IsTurnedFront plant word start letters steps → p < steps → IsTurnedLetter (plant ∷ word) start p (slice_index (plant ∷ letters) p)
-  front_letter word start letters steps zero l here h m =
+  prefix_letter : (word : List ℕ) (start : ℕ) (letters : List ℕ) (steps p : ℕ) → start < length (plant ∷ word) → slice_index (plant ∷ word) start ≡ plant → IsTurnedPrefix plant word start letters steps → p < steps → IsTurnedLetter (plant ∷ word) start p (slice_index (plant ∷ letters) p)
+  prefix_letter word start letters steps zero l here h m =
       let e : start + 0 ≡ start = omega arith in
       let f : place_from (plant ∷ word) start 0 ≡ start = ap (λ (k : ℕ). k % length (plant ∷ word)) e ∙ mod_stays start (length (plant ∷ word)) l in
       let g : slice_index (plant ∷ word) (place_from (plant ∷ word) start 0) ≡ plant = ap (slice_index (plant ∷ word)) f ∙ here in
       plain_letter (plant ∷ word) start 0 plant (record { not_open = λ o. bare.not_open (sym g ∙ o); not_close = λ o. bare.not_close (sym g ∙ o) }) (sym g)
-  front_letter word start letters steps (suc k) l here h m = h.each k (let a = h.as_long in omega arith)
+  prefix_letter word start letters steps (suc k) l here h m = h.each k (let a = h.as_long in omega arith)
 
-  pub front_end : (word : List ℕ) (start : ℕ) (letters : List ℕ) (steps : ℕ) → IsMatched word → start < length (plant ∷ word) → slice_index (plant ∷ word) start ≡ plant → IsTurnedFront plant word start letters steps → steps ≡ length (plant ∷ word) → IsTurned (plant ∷ word) start (plant ∷ letters)
-  front_end word start letters steps o l here h e =
+  pub prefix_end : (word : List ℕ) (start : ℕ) (letters : List ℕ) (steps : ℕ) → IsMatched word → start < length (plant ∷ word) → slice_index (plant ∷ word) start ≡ plant → IsTurnedPrefix plant word start letters steps → steps ≡ length (plant ∷ word) → IsTurned (plant ∷ word) start (plant ∷ letters)
+  prefix_end word start letters steps o l here h e =
       let b = bracketing_exists plant bare word o in
       let t = ring_turned (λ ring. Unit {0}) none_stays plant bare word start o tt in
       let a = h.as_long in
-      let same = one_ring (plant ∷ word) b.0 (plant ∷ letters) t.ring start b.1 (omega arith) (omega (arith, a, e)) (λ p m. front_letter word start letters steps p l here h (omega arith)) t.turned in
+      let same = one_ring (plant ∷ word) b.0 (plant ∷ letters) t.ring start b.1 (omega arith) (omega (arith, a, e)) (λ p m. prefix_letter word start letters steps p l here h (omega arith)) t.turned in
       subst (IsTurned (plant ∷ word) start) (sym same) t.turned
 
 -- the laws, of a plant that is no letter of those past the end

@@ -311,7 +311,7 @@ pub seen_in_word : (letter plant : ℕ) (word : List ℕ) (k : ℕ) → (plant �
 seen_in_word letter plant word k n =
     seen_is letter (plant ∷ word) (suc k) ∙ tally_no letter plant (take k word) n ∙ tally_is letter (take k word)
 
--- where no front has more `)` than `(`, no `)` meets an empty stack
+-- where no prefix has more `)` than `(`, no `)` meets an empty stack
 pub close_has_opener : (plant : ℕ) → IsOther plant → (word : List ℕ) (i : ℕ) → IsMatched word → slice_index (plant ∷ word) (suc i) ≡ CLOSE → IsChain (plant ∷ word) [] (suc i) → ⊥
 close_has_opener plant bare word i m x c =
     let a = chain_level (plant ∷ word) [] (suc i) bare c in

@@ -33,8 +33,8 @@ pair_cons x xs p q pair = moved xs (x ∷ xs) p q (suc p) (suc q) refl refl (let
 pub pair_tail : (x : ℕ) (xs : List ℕ) (p q : ℕ) → IsBracketPair (x ∷ xs) (suc p) (suc q) → IsBracketPair xs p q
 pair_tail x xs p q pair = moved (x ∷ xs) xs (suc p) (suc q) p q refl refl (let b = pair.before in omega arith) (sym (between_tail x xs p q)) pair
 
-between_front : (xs ys : List ℕ) (p q : ℕ) → p < q → q < length xs → between (xs ++ ys) p q ≡ between xs p q
-between_front xs ys p q l h =
+between_prefix : (xs ys : List ℕ) (p q : ℕ) → p < q → q < length xs → between (xs ++ ys) p q ≡ between xs p q
+between_prefix xs ys p q l h =
     let n = length-drop (suc p) xs in
     ap (take (q - suc p)) (drop-append-le (suc p) xs ys (omega arith)) ∙ take-append-le (q - suc p) (drop (suc p) xs) ys (omega (arith, n))
 
@@ -42,12 +42,12 @@ pair_more : (xs ys : List ℕ) (p q : ℕ) → IsBracketPair xs p q → IsBracke
 pair_more xs ys p q pair =
     let b = pair.before in
     let l : q < length xs = inside xs q CLOSE (omega arith) pair.closes in
-    moved xs (xs ++ ys) p q p q (get_or_append_left xs ys 0 p (omega arith)) (get_or_append_left xs ys 0 q l) b (between_front xs ys p q b l) pair
+    moved xs (xs ++ ys) p q p q (get_or_append_left xs ys 0 p (omega arith)) (get_or_append_left xs ys 0 q l) b (between_prefix xs ys p q b l) pair
 
 pair_less : (xs ys : List ℕ) (p q : ℕ) → q < length xs → IsBracketPair (xs ++ ys) p q → IsBracketPair xs p q
 pair_less xs ys p q l pair =
     let b = pair.before in
-    moved (xs ++ ys) xs p q p q (sym (get_or_append_left xs ys 0 p (omega arith))) (sym (get_or_append_left xs ys 0 q l)) b (sym (between_front xs ys p q b l)) pair
+    moved (xs ++ ys) xs p q p q (sym (get_or_append_left xs ys 0 p (omega arith))) (sym (get_or_append_left xs ys 0 q l)) b (sym (between_prefix xs ys p q b l)) pair
 
 between_back : (xs ys : List ℕ) (p q : ℕ) → between (xs ++ ys) (length xs + p) (length xs + q) ≡ between ys p q
 between_back xs ys p q =

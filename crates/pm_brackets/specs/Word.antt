@@ -23,7 +23,7 @@ count letter letters = count_by (λ x. x == letter) letters
 abbrev pub between : List ℕ → ℕ → ℕ → List ℕ
 between places p q = take (q - suc p) (drop (suc p) places)
 
--- the brackets match: as many open as close, and in no front more close than open
+-- the brackets match: as many open as close, and in no prefix more close than open
 pub record IsMatched (letters : List ℕ) : Type 0 where
   pub equal : count OPEN letters ≡ count CLOSE letters
   pub never_below : (k : ℕ) → count CLOSE (take k letters) ≤ count OPEN (take k letters)

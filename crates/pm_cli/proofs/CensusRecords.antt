@@ -35,10 +35,10 @@ use Rattle.pm_cli.specs.Laws.{IsAnswered}
 use Rattle.pm_cli.specs.Records.{AreRecords, HasFirstRecords, RecordsGoOn}
 use Rattle.pm_cli.specs.steps.Answering.{stop_of_census}
 use Rattle.pm_cli.specs.steps.ClassLaws.{IsAtSize}
-use Rattle.pm_cli.specs.steps.Streams.{IsWritingRecords, IsWriting, HasAddedFront, HasAddedFirst}
+use Rattle.pm_cli.specs.steps.Streams.{IsWritingRecords, IsWriting, HasAddedPrefix, HasAddedFirst}
 use Rattle.pm_cli.proofs.MapRelations.{same_some, none_some}
 use Rattle.pm_cli.proofs.OneText.{one_text}
-use Rattle.pm_cli.proofs.Records.{AreWritten, one_more_written, records_go_on, first_written, next_in_front, records_once, added_front_as, added_first_as}
+use Rattle.pm_cli.proofs.Records.{AreWritten, one_more_written, records_go_on, first_written, next_in_prefix, records_once, added_prefix_as, added_first_as}
 
 -- the map of an entry stands there
 entry_stands : (entries : List (RotationSystem × ℕ)) (place : ℕ) (entry : RotationSystem × ℕ) → slice_get entries place ≡ Some entry → Stands entry.0 entries
@@ -123,11 +123,11 @@ module _ (bounds : List ℕ) (samples : List ℕ → RotationSystem → List ℕ
       (λ text. Counts bounds samples (Ok text)) old new (λ text first. record { entries = entries; is_census = is_census; are_first = first }) whole_text
       (first_written (IsCensusRecord entries) go_on place (length entries + 1) old new (omega arith) w)
 
-  pub entry_in_front : (n : ℕ) (old mid new : Option (List ℕ)) (last : List ℕ) → place ≤ length entries → AreWritten (IsCensusRecord entries) place old mid
-      → IsCensusRecord entries place last → new ≡ added mid (take n last) → HasAddedFront (λ text. Counts bounds samples (Ok text)) old new
-  entry_in_front n old mid new last l w is adds =
-      added_front_as (AreRecords (IsCensusRecord entries) (length entries + 1)) (λ text. Counts bounds samples (Ok text)) old new whole_text
-      (next_in_front (IsCensusRecord entries) go_on place (length entries + 1) n old mid new last (omega arith) w is adds)
+  pub entry_in_prefix : (n : ℕ) (old mid new : Option (List ℕ)) (last : List ℕ) → place ≤ length entries → AreWritten (IsCensusRecord entries) place old mid
+      → IsCensusRecord entries place last → new ≡ added mid (take n last) → HasAddedPrefix (λ text. Counts bounds samples (Ok text)) old new
+  entry_in_prefix n old mid new last l w is adds =
+      added_prefix_as (AreRecords (IsCensusRecord entries) (length entries + 1)) (λ text. Counts bounds samples (Ok text)) old new whole_text
+      (next_in_prefix (IsCensusRecord entries) go_on place (length entries + 1) n old mid new last (omega arith) w is adds)
 
   -- the last line
   pub census_ends : (old mid new : Option (List ℕ)) (f g h : ℕ) (last : List ℕ) (result : Result (Unit {0}) Stop) → place ≡ length entries
@@ -140,7 +140,7 @@ module _ (bounds : List ℕ) (samples : List ℕ → RotationSystem → List ℕ
       (record { text = all.text; holds = whole_text all.text are; written = all.written }, written.1 ∙ calm)
   census_ends old mid new f g h last (Err Write) same w is calm written =
       let record_is = subst (λ (n : ℕ). IsCensusRecord entries n last) (sym same) (last_record entries last is) in
-      (entry_in_front written.0.0 old mid new last (omega (arith, same)) w record_is written.0.1, subst (λ (x : ℕ). FaultsRose x h) calm written.1)
+      (entry_in_prefix written.0.0 old mid new last (omega (arith, same)) w record_is written.0.1, subst (λ (x : ℕ). FaultsRose x h) calm written.1)
   census_ends old mid new f g h last (Err Read) same w is calm written = absurd written
   census_ends old mid new f g h last (Err Memory) same w is calm written = absurd written
   census_ends old mid new f g h last (Err (Refused refusal)) same w is calm written = absurd written

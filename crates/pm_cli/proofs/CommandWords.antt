@@ -19,9 +19,9 @@ use Rattle.pm_cli.proofs.ClassLaws.{one_class, one_size}
 use Rattle.pm_cli.proofs.StoppingWords.{first_words, later_words}
 use Rattle.pm_cli.proofs.TaskLaws.{one_verb}
 
--- equal fronts have equal shorter fronts
-front : (k j : ℕ) (xs ys : List (List ℕ)) → k ≤ j → take j xs ≡ take j ys → take k xs ≡ take k ys
-front k j xs ys le e = sym (shorter k j xs le) ∙ ap (take k) e ∙ shorter k j ys le where
+-- equal prefixes have equal shorter prefixes
+prefix : (k j : ℕ) (xs ys : List (List ℕ)) → k ≤ j → take j xs ≡ take j ys → take k xs ≡ take k ys
+prefix k j xs ys le e = sym (shorter k j xs le) ∙ ap (take k) e ∙ shorter k j ys le where
   shorter : (k j : ℕ) (xs : List (List ℕ)) → k ≤ j → take k (take j xs) ≡ take k xs
   shorter zero j xs le = refl
   shorter (suc k) zero xs le = absurd (omega arith)
@@ -76,7 +76,7 @@ stops_at words k begins none = record {
   begins = begins;
   greatest = λ j b. elim (cases_lt k j) [
     | inr fine ↦ fine
-    | inl more ↦ absurd (none b.command b.is_command (front (suc k) j words (spelling b.command) more b.same))
+    | inl more ↦ absurd (none b.command b.is_command (prefix (suc k) j words (spelling b.command) more b.same))
   ];
 }
 

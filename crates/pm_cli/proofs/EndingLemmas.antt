@@ -22,7 +22,7 @@ use Rattle.pm_cli.specs.Lines.{status_of_stop}
 use Rattle.pm_cli.specs.steps.Answering.{IsAnswerBy}
 use Rattle.pm_cli.specs.steps.Streams.{IsWritingRecords, HasRead, IsReading, IsWriting, IsToldFor}
 
--- a flush that failed after a whole write: the whole text is the front that was added
+-- a flush that failed after a whole write: the whole text is the prefix that was added
 pub flush_failed : (text : List ℕ) (old mid new : Option (List ℕ)) (faults_old faults_mid faults_new : ℕ)
     → mid ≡ added old text → new ≡ mid → faults_mid ≡ faults_old → FaultsRose faults_mid faults_new
     → ((n : ℕ) × (new ≡ added old (take n text))) × FaultsRose faults_old faults_new
@@ -85,7 +85,7 @@ written_by words reader left after old new f g h i read text (Ok done) spells wa
 written_by words reader left after old new f g h i read text (Err Write) spells was_read answers written bytes input = record {
   text = text;
   answers = answers_file words reader left after f g read bytes (Ok text) spells was_read answers input;
-  front = written.0.0;
+  prefix = written.0.0;
   written = written.0.1;
 }
 written_by words reader left after old new f g h i read text (Err Read) spells was_read answers written bytes input = absurd written
@@ -135,7 +135,7 @@ ends_making words task size left old new f g (Ok done) spells made bytes input =
 ends_making words task size left old new f g (Err Write) spells made bytes input = record {
   text = made.0.text;
   answers = of_size task size spells (Ok made.0.text) made.0.holds;
-  front = made.0.front;
+  prefix = made.0.prefix;
   written = made.0.written;
 }
 ends_making words task size left old new f g (Err Memory) spells made bytes input =

@@ -146,9 +146,9 @@ pub has_colon : (text : List ℕ) (r : Option (Bor (List ℕ) × Bor (List ℕ))
 has_colon text r pair none cut is e =
     subst (λ (o : Option (Bor (List ℕ) × Bor (List ℕ))). MatchOption o ⊥ (λ x. (x.0.now ≡ decimal pair.0) × (x.1.now ≡ decimal pair.1))) none (cut_at_colon text r pair cut is e)
 
-pub parts_of_pair : (text : List ℕ) (r : Option (Bor (List ℕ) × Bor (List ℕ))) (front back : Bor (List ℕ)) (pair : ℕ × ℕ) → r ≡ Some (front, back) → IsSplitOnceResult colon text r → IsPairOfWords pair
-    → text ≡ pair_text pair → (front.now ≡ decimal pair.0) × (back.now ≡ decimal pair.1)
-parts_of_pair text r front back pair some cut is e =
+pub parts_of_pair : (text : List ℕ) (r : Option (Bor (List ℕ) × Bor (List ℕ))) (prefix back : Bor (List ℕ)) (pair : ℕ × ℕ) → r ≡ Some (prefix, back) → IsSplitOnceResult colon text r → IsPairOfWords pair
+    → text ≡ pair_text pair → (prefix.now ≡ decimal pair.0) × (back.now ≡ decimal pair.1)
+parts_of_pair text r prefix back pair some cut is e =
     subst (λ (o : Option (Bor (List ℕ) × Bor (List ℕ))). MatchOption o ⊥ (λ x. (x.0.now ≡ decimal pair.0) × (x.1.now ≡ decimal pair.1))) some (cut_at_colon text r pair cut is e)
 
 -- the texts so far spell the pairs so far

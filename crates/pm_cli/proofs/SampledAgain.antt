@@ -91,7 +91,7 @@ sampled_again laws c bytes text canonical unsamples canonizes =
       is_of = back.is_of;
       admissible = is.admissible;
       of_map = record { residue = Some residue; map = x.map; answered = wide; holds = is.has };
-      front = lines_text file.lines;
+      prefix = lines_text file.lines;
       line = file.rest;
       is_line = (residue, file.is_residue);
       ends_so = file.spelled;

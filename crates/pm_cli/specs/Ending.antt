@@ -44,8 +44,8 @@ IsInput words left bytes = (left ≡ Some bytes) ⊎ ReadNothing words
 pub record HasWritten (words : List (List ℕ)) (bytes : List ℕ) (old new : Option (List ℕ)) : Type 0 where
   pub text : List ℕ
   pub answers : Answers words bytes (Ok text)
-  pub front : ℕ
-  pub written : new ≡ added old (take front text)
+  pub prefix : ℕ
+  pub written : new ≡ added old (take prefix text)
 
 -- some text is the answer, and it was added to the output whole
 pub record HasAnswered (words : List (List ℕ)) (bytes : List ℕ) (old new : Option (List ℕ)) : Type 0 where
@@ -67,7 +67,7 @@ pub record HasBegun (words : List (List ℕ)) (bytes : List ℕ) (old new : Opti
   pub written : new ≡ added old begun
 
 -- What was added to the output: the whole answer; nothing where the words and bytes are refused, as they are then, and
--- where the input failed; a front of the answer where the output failed; nothing where memory was wanting, or the first
+-- where the input failed; a prefix of the answer where the output failed; nothing where memory was wanting, or the first
 -- records of an answer that is written record by record.
 abbrev pub EndsBy : List (List ℕ) → List ℕ → Option (List ℕ) → Option (List ℕ) → Result (Unit {0}) Stop → Type 0
 EndsBy words bytes old new (Ok done) = HasAnswered words bytes old new

@@ -98,10 +98,10 @@ pub record IsSampledAgain (answers : Reader → List ℕ → Result (List ℕ) R
   pub is_of : class_of size ≡ class
   pub admissible : IsSize size
   pub of_map : HasMap map_file MAX_EDGES (let at : AtSize = sized size in at.has)
-  pub front : List ℕ
+  pub prefix : List ℕ
   pub line : List ℕ
   pub is_line : IsResidueLine line
-  pub ends_so : map_file ≡ front ++ line
+  pub ends_so : map_file ≡ prefix ++ line
   pub sampled : answers (Sample size) choices_file (Ok (map_text ++ line))
 
 -- what is unsampled of a map file, is sampled as the text that `canon` answers to that file, and its residue line

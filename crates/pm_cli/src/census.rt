@@ -39,7 +39,7 @@ fn total_text(alloc: Global, maps: u32, lists: u64) -> Result<Vec<u8>, AllocErro
     Ok(text)
 }
 
-// First records of a census are a front of more: each of its maps is canonical, and so has a text. Nothing is computed.
+// First records of a census are a prefix of more: each of its maps is canonical, and so has a text. Nothing is computed.
 fn entries_go_on<C: MapClass>(size: &C::Size, found: &CensusList)
     requires size { C.is_size size.now }
     requires found { IsCensus (C.choice_limits size.now) (C.samples size.now) found.now }

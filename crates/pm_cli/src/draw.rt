@@ -42,7 +42,7 @@ fn draw_record<C: MapClass>(
     Ok(text)
 }
 
-// First records are a front of more: by the laws of the class each list has a record, also those that a drawing which
+// First records are a prefix of more: by the laws of the class each list has a record, also those that a drawing which
 // stops early doesn't come to. Nothing is computed.
 fn records_go_on<C: MapClass>(size: &C::Size, limits: &[u64])
     requires size { C.is_size size.now }

@@ -121,7 +121,7 @@ fn write_line<E: Sink>(err: &mut E, line: &[u8])
 /// where `out` failed and 9 where memory was wanting, which may show before anything is read where a word spells a profile. A
 /// failing `err` changes no status.
 ///
-/// At 8 there is an answer, and a front of it was added to `out`. At 9 nothing was added, or by `draw` and `census` the first
+/// At 8 there is an answer, and a prefix of it was added to `out`. At 9 nothing was added, or by `draw` and `census` the first
 /// records of the answer, which there is.
 pub fn run<S: Source, O: Sink, E: Sink>(
     alloc: Global,

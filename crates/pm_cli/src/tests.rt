@@ -430,7 +430,7 @@ fn answers_and_refusals(rt: HostRuntime) -> Result<(), Fail> {
     Ok(())
 }
 
-// Each record has one write, so what a failing second write leaves is the first record and a front of the second one. A
+// Each record has one write, so what a failing second write leaves is the first record and a prefix of the second one. A
 // drawing reads nothing, nor does a trip or a census.
 #[test]
 fn failing_streams(rt: HostRuntime) -> Result<(), Fail> {
@@ -543,7 +543,7 @@ fn records_are_sampled(rt: HostRuntime) -> Result<(), Fail> {
 }
 
 #[test]
-fn fewer_records_are_a_front(rt: HostRuntime) -> Result<(), Fail> {
+fn fewer_records_are_a_prefix(rt: HostRuntime) -> Result<(), Fail> {
     let few = run_on(&rt, rt.alloc(), "draw quartic 100 5 3", b"", NONE)?;
     let roomy = Faults {
         room: 10_000_000,

@@ -44,7 +44,7 @@ fn record_count(word: &String) -> Option<u64>
     }
 }
 
-// A class and a size of it at the front of the words, and the words behind them.
+// A class and a size of it at the prefix of the words, and the words behind them.
 #[derive(Drop)]
 struct Sized<'a> {
     size: Size,

@@ -12,7 +12,7 @@ use Rattle.pm_trees.specs.Word.{contour}
 use Rattle.pm_close.specs.Level.{IsLevel}
 use Rattle.pm_close.specs.steps.Levelling.{IsLow, IsLevelled, AreLevelsAt}
 
--- what a letter adds to the counts of a front
+-- what a letter adds to the counts of a prefix
 record IsCounted (letters : List ℕ) (index bud leaf : ℕ) : Type 0 where
   buds : count BUD (take (index + 1) letters) ≡ count BUD (take index letters) + bud
   leaves : count LEAF (take (index + 1) letters) ≡ count LEAF (take index letters) + leaf

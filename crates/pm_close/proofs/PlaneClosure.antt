@@ -276,7 +276,7 @@ module _ (places other : List ℕ) (t : ℕ → ℕ) (drawn : IsDrawn places oth
       let faces = cycles-nested (length places) (λ p. next (t p)) ring partner some (is_ring some) partner_involution (record { value = λ p l. rotation (t p) (twinning.stays p l) }) partners_nested in
       omega (arith, vertices, faces, pairs_half)
 
--- the closure on places has Euler's number 2
+-- the closure on places has Euler characteristic 2
 pub closure_euler : (word : List ℕ) (closure : Structure) → IsBlossoming word → IsBalanced (contour word) → IsClosure (contour word) closure → HasEulerTwo closure
 closure_euler word closure tree balanced is =
     let bracketing = bracketing_exists word tree.in_order in

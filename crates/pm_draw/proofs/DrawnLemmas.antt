@@ -12,14 +12,14 @@ use Rattle.pm_draw.specs.Drawn.{below, drawn}
 
 -- the first entries are those drawn for the first bounds, below them, and this stream is left
 pub record AreDrawn (bounds : List ℕ) (count : ℕ) (old : Stream) (entries : List ℕ) (left : Stream) : Type 0 where
-  pub front : take count entries ≡ (drawn (take count bounds) old).0
+  pub prefix : take count entries ≡ (drawn (take count bounds) old).0
   pub rest : left ≡ (drawn (take count bounds) old).1
   pub valid : (place : ℕ) → place < count → slice_index entries place < slice_index bounds place
 
 -- nothing is drawn yet
 pub none_drawn : (bounds entries : List ℕ) (old : Stream) → AreDrawn bounds 0 old entries old
 unfolding drawn
-none_drawn bounds entries old = record { front = refl; rest = refl; valid = λ place l. absurd (omega arith) }
+none_drawn bounds entries old = record { prefix = refl; rest = refl; valid = λ place l. absurd (omega arith) }
 
 -- what is drawn for one more bound
 one_more : (bounds : List ℕ) (count : ℕ) (old : Stream) → count < length bounds
@@ -55,7 +55,7 @@ one_more_drawn bounds entries count value old mid left l room sofar is rest less
     let more = ap (λ (n : ℕ). drawn (take n bounds) old) (add-one count) ∙ one_more bounds count old l in
     let next = ap (below (slice_index bounds count)) sofar.rest in
     record {
-      front = take_more_set entries count value room ∙ ap (λ (es : List ℕ). es ++ value ∷ []) sofar.front
+      prefix = take_more_set entries count value room ∙ ap (λ (es : List ℕ). es ++ value ∷ []) sofar.prefix
           ∙ ap (λ (v : ℕ). (drawn (take count bounds) old).0 ++ v ∷ []) (is ∙ ap (λ (d : ℕ × Stream). d.0) next) ∙ sym (ap (λ (d : List ℕ × Stream). d.0) more);
       rest = rest ∙ ap (λ (d : ℕ × Stream). d.1) next ∙ sym (ap (λ (d : List ℕ × Stream). d.1) more);
       valid = λ place p. valid place p (cases_lt place count);
@@ -70,7 +70,7 @@ pub all_drawn : (bounds entries : List ℕ) (old left : Stream) (count : ℕ) �
 all_drawn bounds entries old left count all same long =
     let bounds_whole : take count bounds ≡ bounds = ap (λ (k : ℕ). take k bounds) same ∙ take-length bounds in
     let entries_whole : take count entries ≡ entries = ap (λ (k : ℕ). take k entries) (same ∙ sym long) ∙ take-length entries in (
-      sym entries_whole ∙ all.front ∙ ap (λ (bs : List ℕ). (drawn bs old).0) bounds_whole,
+      sym entries_whole ∙ all.prefix ∙ ap (λ (bs : List ℕ). (drawn bs old).0) bounds_whole,
       (
         all.rest ∙ ap (λ (bs : List ℕ). (drawn bs old).1) bounds_whole,
         record { as_long = long; below = λ place l. all.valid place (omega arith) },

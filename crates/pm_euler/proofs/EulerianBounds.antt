@@ -84,10 +84,10 @@ map-replicate : (f : ℕ → ℕ) (n x : ℕ) → map f (replicate n x) ≡ repl
 map-replicate f zero x = refl
 map-replicate f (suc n) x = ap (λ (ys : List ℕ). f x ∷ ys) (map-replicate f n x)
 
-pub patterns_more : (pairs : List (ℕ × ℕ)) (i : ℕ) (front limits after : List ℕ) → i < length pairs → limits ≡ front ++ map (λ half. choose (2 * half - 1) half) (halves_of (take i pairs))
+pub patterns_more : (pairs : List (ℕ × ℕ)) (i : ℕ) (prefix limits after : List ℕ) → i < length pairs → limits ≡ prefix ++ map (λ half. choose (2 * half - 1) half) (halves_of (take i pairs))
     → after ≡ limits ++ replicate (pair_at pairs i).1 (choose (2 * ((pair_at pairs i).0 / 2) - 1) ((pair_at pairs i).0 / 2))
-    → after ≡ front ++ map (λ half. choose (2 * half - 1) half) (halves_of (take (i + 1) pairs))
-patterns_more pairs i front limits after less before e =
+    → after ≡ prefix ++ map (λ half. choose (2 * half - 1) half) (halves_of (take (i + 1) pairs))
+patterns_more pairs i prefix limits after less before e =
     let patterns : ℕ → ℕ = λ half. choose (2 * half - 1) half in
     let nodes : ℕ × ℕ → List ℕ = λ p. replicate p.1 (p.0 / 2) in
     let here : List ℕ = nodes (pair_at pairs i) in
@@ -96,8 +96,8 @@ patterns_more pairs i front limits after less before e =
     e
     ∙ ap (λ (xs : List ℕ). limits ++ xs) (sym (map-replicate patterns (pair_at pairs i).1 ((pair_at pairs i).0 / 2)))
     ∙ ap (λ (xs : List ℕ). xs ++ map patterns here) before
-    ∙ append_assoc front (map patterns (halves_of (take i pairs))) (map patterns here)
-    ∙ ap (λ (xs : List ℕ). front ++ xs) (sym (map-append patterns (halves_of (take i pairs)) here) ∙ ap (map patterns) halves)
+    ∙ append_assoc prefix (map patterns (halves_of (take i pairs))) (map patterns here)
+    ∙ ap (λ (xs : List ℕ). prefix ++ xs) (sym (map-append patterns (halves_of (take i pairs)) here) ∙ ap (map patterns) halves)
 
 -- the three parts of the choices
 pub length-eulerian_choices : (pairs : List (ℕ × ℕ)) → length (eulerian_choices pairs) ≡ suc (edges_of pairs) + nodes_of_profile pairs + 1

@@ -16,7 +16,7 @@ use Rattle.pm_trees.proofs.CountedPairs.{sum_bounded}
 use Rattle.pm_class.specs.ClassLaws.{IsKeptByRenumbering, AreLimits, HasMostEdges}
 use Rattle.pm_class.specs.OneToOne.{AreOneToOne}
 use Rattle.pm_objects.specs.Codes.{code_bounds}
-use Rattle.pm_euler.specs.Bounds.{eulerian_rests, eulerian_fronts, eulerian_choices, eulerian_residues}
+use Rattle.pm_euler.specs.Bounds.{eulerian_rests, eulerian_prefixes, eulerian_choices, eulerian_residues}
 use Rattle.pm_euler.specs.Eulerian.{MakesEulerian, SamplesEulerian}
 use Rattle.pm_objects.proofs.ObjectCounts.{nodes_by_ranges}
 use Rattle.pm_euler.specs.Objects.{leaves_of_profile, ranges_of}
@@ -26,7 +26,7 @@ use Rattle.pm_euler.proofs.EulerianMaps.{counted_of_degrees}
 use Rattle.pm_euler.proofs.ObjectLemmas.{halves_few}
 
 pub eulerian_class : (pairs : List (ℕ × ℕ)) → IsProfile pairs
-    → IsTreeClass pairs (eulerian_fronts pairs) (eulerian_rests pairs) (eulerian_residues pairs) (λ m. IsEulerian (structure_of m) pairs) (MakesEulerian pairs) (λ rest old_plant. rest ++ old_plant ∷ [])
+    → IsTreeClass pairs (eulerian_prefixes pairs) (eulerian_rests pairs) (eulerian_residues pairs) (λ m. IsEulerian (structure_of m) pairs) (MakesEulerian pairs) (λ rest old_plant. rest ++ old_plant ∷ [])
 eulerian_class pairs is = record { profile = is; maps = λ m rooted. (λ has. has, λ has. has); trees = eulerian_makes pairs is; joins = eulerian_joins pairs }
 
 pub eulerian_one_to_one : (pairs : List (ℕ × ℕ)) → IsProfile pairs → AreOneToOne (eulerian_choices pairs) (eulerian_residues pairs) (λ m. IsEulerian (structure_of m) pairs) (SamplesEulerian pairs)

@@ -34,16 +34,16 @@ use Rattle.pm_planting.proofs.PlaneTrees.{one_word, word_exists}
 use Rattle.pm_planting.proofs.SideReading.{one_reading}
 use Rattle.pm_planting.proofs.SideTexts.{same_push}
 use Rattle.pm_planting.proofs.WordKinds.{kinds_each, kinds_exist}
-use Rattle.pm_euler.specs.Bounds.{eulerian_fronts, eulerian_residues, eulerian_rests}
+use Rattle.pm_euler.specs.Bounds.{eulerian_prefixes, eulerian_residues, eulerian_rests}
 use Rattle.pm_euler.specs.Eulerian.{MakesEulerian, codes_by_degree}
 use Rattle.pm_euler.specs.Objects.{IsPlantedPlane, halves_of, kind_of, kinds_of, leaves_of_profile, nodes_of_profile, ranges_of}
-use Rattle.pm_euler.specs.Sampled.{HasNodes, IsFrontOf, IsMade}
+use Rattle.pm_euler.specs.Sampled.{HasNodes, IsPrefixOf, IsMade}
 use Rattle.pm_euler.proofs.ObjectKinds.{are_kinds, counted_halves, half_degrees, halves_in_kinds, letters_of_kinds, plane_planted_blossoming}
 use Rattle.pm_euler.proofs.ObjectLemmas.{HasObjects, all_of_profile, halves_are, halves_few, halves_some, profile_apart}
 use Rattle.pm_euler.proofs.ObjectRanks.{node_within, ranks_of, AreRanksOf, object_stands, ranks_exist, same_ranks}
 use Rattle.pm_euler.proofs.Preorders.{IsPreorder, one_preorder, preorder_exists, preorder_is}
 use Rattle.pm_euler.proofs.TreeNodes.{profile_kinds}
-use Rattle.pm_euler.proofs.TreeSamples.{parts_are, HasParts, HasFront, HasMade, JoinsRests, MakesTrees}
+use Rattle.pm_euler.proofs.TreeSamples.{parts_are, HasParts, HasPrefix, HasMade, JoinsRests, MakesTrees}
 
 -- an even degree and its half, or a degree that is odd or 0
 data IsHalved (degree : ℕ) : Type 0 where
@@ -76,61 +76,61 @@ planted_nodes pairs ranks objects word is has planted = record {
   by_half degree none (even half some twice) = ap (nodes_of word) twice ∙ counted half some ∙ has.of_no_pair half some (λ k less e. none k less (e ∙ sym twice))
   by_half degree none (unhalved apart) = kinds_no_odd (kinds_of (halves_of pairs) ranks objects) word planted degree apart
 
--- the two parts of a valid front
-pub record AreParts (pairs : List (ℕ × ℕ)) (front : List ℕ) : Type 0 where
-  pub coded : IsCodeOfLength (suc (edges_of pairs)) (take (suc (edges_of pairs)) front)
-  pub ranks_long : length (drop (suc (edges_of pairs)) front) ≡ nodes_of_profile pairs
-  pub ranks_low : (k : ℕ) → k < nodes_of_profile pairs → slice_index (drop (suc (edges_of pairs)) front) k < choose (2 * slice_index (halves_of pairs) k - 1) (slice_index (halves_of pairs) k)
+-- the two parts of a valid prefix
+pub record AreParts (pairs : List (ℕ × ℕ)) (prefix : List ℕ) : Type 0 where
+  pub coded : IsCodeOfLength (suc (edges_of pairs)) (take (suc (edges_of pairs)) prefix)
+  pub ranks_long : length (drop (suc (edges_of pairs)) prefix) ≡ nodes_of_profile pairs
+  pub ranks_low : (k : ℕ) → k < nodes_of_profile pairs → slice_index (drop (suc (edges_of pairs)) prefix) k < choose (2 * slice_index (halves_of pairs) k - 1) (slice_index (halves_of pairs) k)
 
-pub front_parts : (pairs : List (ℕ × ℕ)) (front : List ℕ) → IsValidList front (eulerian_fronts pairs) → AreParts pairs front
-front_parts pairs front valid =
+pub prefix_parts : (pairs : List (ℕ × ℕ)) (prefix : List ℕ) → IsValidList prefix (eulerian_prefixes pairs) → AreParts pairs prefix
+prefix_parts pairs prefix valid =
     let patterns : ℕ → ℕ = λ half. choose (2 * half - 1) half in
-    let v = valid_parts (suc (edges_of pairs)) front (code_bounds (suc (edges_of pairs))) (map (λ half. choose (2 * half - 1) half) (halves_of pairs)) (length-code_bounds (suc (edges_of pairs))) valid in
-    let long : length (drop (suc (edges_of pairs)) front) ≡ nodes_of_profile pairs = v.1.as_long ∙ length-map (halves_of pairs) patterns in
+    let v = valid_parts (suc (edges_of pairs)) prefix (code_bounds (suc (edges_of pairs))) (map (λ half. choose (2 * half - 1) half) (halves_of pairs)) (length-code_bounds (suc (edges_of pairs))) valid in
+    let long : length (drop (suc (edges_of pairs)) prefix) ≡ nodes_of_profile pairs = v.1.as_long ∙ length-map (halves_of pairs) patterns in
     record {
-      coded = code_from_valid (suc (edges_of pairs)) (take (suc (edges_of pairs)) front) v.0;
+      coded = code_from_valid (suc (edges_of pairs)) (take (suc (edges_of pairs)) prefix) v.0;
       ranks_long = long;
       ranks_low = λ k less.
-          subst (λ (n : ℕ). slice_index (drop (suc (edges_of pairs)) front) k < n) (get_or-map (λ half. choose (2 * half - 1) half) (halves_of pairs) k 0 0 less) (v.1.below k (omega (arith, less, long)));
+          subst (λ (n : ℕ). slice_index (drop (suc (edges_of pairs)) prefix) k < n) (get_or-map (λ half. choose (2 * half - 1) half) (halves_of pairs) k 0 0 less) (v.1.below k (omega (arith, less, long)));
     }
 
 -- the same, where the objects are counted otherwise
-module _ (pairs : List (ℕ × ℕ)) (front : List ℕ) (m : ℕ) (valid : IsValidList front (eulerian_fronts pairs)) (counted : m ≡ suc (edges_of pairs)) where
-  pub code_long : length (take m front) ≡ suc (edges_of pairs)
-  code_long = ap (λ (n : ℕ). length (take n front)) counted ∙ (front_parts pairs front valid).coded.long
+module _ (pairs : List (ℕ × ℕ)) (prefix : List ℕ) (m : ℕ) (valid : IsValidList prefix (eulerian_prefixes pairs)) (counted : m ≡ suc (edges_of pairs)) where
+  pub code_long : length (take m prefix) ≡ suc (edges_of pairs)
+  code_long = ap (λ (n : ℕ). length (take n prefix)) counted ∙ (prefix_parts pairs prefix valid).coded.long
 
-  pub code_valid : IsArrangementCode (take m front)
-  code_valid = subst (λ (n : ℕ). IsArrangementCode (take n front)) (sym counted) (front_parts pairs front valid).coded.is_code
+  pub code_valid : IsArrangementCode (take m prefix)
+  code_valid = subst (λ (n : ℕ). IsArrangementCode (take n prefix)) (sym counted) (prefix_parts pairs prefix valid).coded.is_code
 
-  pub code_within : m ≤ length front
-  code_within = let l = code_long in omega (arith, counted, l, length-take m front)
+  pub code_within : m ≤ length prefix
+  code_within = let l = code_long in omega (arith, counted, l, length-take m prefix)
 
-  pub ranks_are : take (length front - m) (drop m front) ≡ drop (suc (edges_of pairs)) front
-  ranks_are = take_all (length front - m) (drop m front) (omega (arith, length-drop m front)) ∙ ap (λ (n : ℕ). drop n front) counted
+  pub ranks_are : take (length prefix - m) (drop m prefix) ≡ drop (suc (edges_of pairs)) prefix
+  ranks_are = take_all (length prefix - m) (drop m prefix) (omega (arith, length-drop m prefix)) ∙ ap (λ (n : ℕ). drop n prefix) counted
 
-  pub preordered_of : (halves : List ℕ) (start : ℕ) (objects : List ℕ) → halves ≡ halves_of pairs → ArePreordered 1 halves (take m front) start objects → ArePreordered 1 (halves_of pairs) (take (suc (edges_of pairs)) front) start objects
+  pub preordered_of : (halves : List ℕ) (start : ℕ) (objects : List ℕ) → halves ≡ halves_of pairs → ArePreordered 1 halves (take m prefix) start objects → ArePreordered 1 (halves_of pairs) (take (suc (edges_of pairs)) prefix) start objects
   preordered_of halves start objects same p =
-      subst (λ (hs : List ℕ). ArePreordered 1 hs (take (suc (edges_of pairs)) front) start objects) same (subst (λ (n : ℕ). ArePreordered 1 halves (take n front) start objects) counted p)
+      subst (λ (hs : List ℕ). ArePreordered 1 hs (take (suc (edges_of pairs)) prefix) start objects) same (subst (λ (n : ℕ). ArePreordered 1 halves (take n prefix) start objects) counted p)
 
-  pub kinds_are : (kinds : List Kind) (halves objects others : List ℕ) → halves ≡ halves_of pairs → others ≡ objects → kinds ≡ kinds_of halves (take (length front - m) (drop m front)) others → kinds ≡ kinds_of (halves_of pairs) (drop (suc (edges_of pairs)) front) objects
-  kinds_are kinds halves objects others h o e = e ∙ ap₂ (λ (hs rs : List ℕ). kinds_of hs rs others) h ranks_are ∙ ap (kinds_of (halves_of pairs) (drop (suc (edges_of pairs)) front)) o
+  pub kinds_are : (kinds : List Kind) (halves objects others : List ℕ) → halves ≡ halves_of pairs → others ≡ objects → kinds ≡ kinds_of halves (take (length prefix - m) (drop m prefix)) others → kinds ≡ kinds_of (halves_of pairs) (drop (suc (edges_of pairs)) prefix) objects
+  kinds_are kinds halves objects others h o e = e ∙ ap₂ (λ (hs rs : List ℕ). kinds_of hs rs others) h ranks_are ∙ ap (kinds_of (halves_of pairs) (drop (suc (edges_of pairs)) prefix)) o
 
--- what is known of the objects and the tree that a front makes
-pub made_preorder : (pairs : List (ℕ × ℕ)) (front : List ℕ) (start : ℕ) (objects : List ℕ) → IsProfile pairs → IsValidList front (eulerian_fronts pairs) → ArePreordered 1 (halves_of pairs) (take (suc (edges_of pairs)) front) start objects → IsPreorder pairs start objects
-made_preorder pairs front start objects is valid preordered = preorder_is pairs (take (suc (edges_of pairs)) front) start objects is (front_parts pairs front valid).coded.long preordered
+-- what is known of the objects and the tree that a prefix makes
+pub made_preorder : (pairs : List (ℕ × ℕ)) (prefix : List ℕ) (start : ℕ) (objects : List ℕ) → IsProfile pairs → IsValidList prefix (eulerian_prefixes pairs) → ArePreordered 1 (halves_of pairs) (take (suc (edges_of pairs)) prefix) start objects → IsPreorder pairs start objects
+made_preorder pairs prefix start objects is valid preordered = preorder_is pairs (take (suc (edges_of pairs)) prefix) start objects is (prefix_parts pairs prefix valid).coded.long preordered
 
-made_blossoms : (pairs : List (ℕ × ℕ)) (front word rest : List ℕ) → IsProfile pairs → IsValidList front (eulerian_fronts pairs) → MakesEulerian pairs front word rest → IsBlossoming word
-made_blossoms pairs front word rest is valid made =
-    let long = (made_preorder pairs front made.start made.objects is valid made.are_preordered).long in
+made_blossoms : (pairs : List (ℕ × ℕ)) (prefix word rest : List ℕ) → IsProfile pairs → IsValidList prefix (eulerian_prefixes pairs) → MakesEulerian pairs prefix word rest → IsBlossoming word
+made_blossoms pairs prefix word rest is valid made =
+    let long = (made_preorder pairs prefix made.start made.objects is valid made.are_preordered).long in
     let few = is.few in
-    plane_planted_blossoming (halves_of pairs) (drop (suc (edges_of pairs)) front) made.objects word (halves_are pairs is) made.is_planted (omega (arith, long, few))
+    plane_planted_blossoming (halves_of pairs) (drop (suc (edges_of pairs)) prefix) made.objects word (halves_are pairs is) made.is_planted (omega (arith, long, few))
 
-only : (pairs : List (ℕ × ℕ)) (front word rest : List ℕ) → IsProfile pairs → IsValidList front (eulerian_fronts pairs) → MakesEulerian pairs front word rest → IsMade pairs (eulerian_rests pairs) word rest
-only pairs front word rest is valid made =
-    let p = made_preorder pairs front made.start made.objects is valid made.are_preordered in
+only : (pairs : List (ℕ × ℕ)) (prefix word rest : List ℕ) → IsProfile pairs → IsValidList prefix (eulerian_prefixes pairs) → MakesEulerian pairs prefix word rest → IsMade pairs (eulerian_rests pairs) word rest
+only pairs prefix word rest is valid made =
+    let p = made_preorder pairs prefix made.start made.objects is valid made.are_preordered in
     record {
-      blossoming = made_blossoms pairs front word rest is valid made;
-      nodes = planted_nodes pairs (drop (suc (edges_of pairs)) front) made.objects word is p.has made.is_planted;
+      blossoming = made_blossoms pairs prefix word rest is valid made;
+      nodes = planted_nodes pairs (drop (suc (edges_of pairs)) prefix) made.objects word is p.has made.is_planted;
       valid = subst (λ (r : List ℕ). IsValidList r (eulerian_rests pairs)) (sym made.rest_is)
           (valid_cons made.start (suc (edges_of pairs)) (codes_by_degree pairs made.objects) (bounds_by_range (ranges_of pairs) (leaves_of_profile pairs)) p.within (valid_codes (ranges_of pairs) (leaves_of_profile pairs) made.objects p.ranged));
     }
@@ -142,26 +142,26 @@ pub record ArePlantable (pairs : List (ℕ × ℕ)) (kinds : List Kind) : Type 0
   pub some : 1 < length kinds
   pub good : IsGood 1 (letters_in kinds)
 
-pub plantable : (pairs : List (ℕ × ℕ)) (front : List ℕ) (start : ℕ) (objects : List ℕ) → IsProfile pairs → IsValidList front (eulerian_fronts pairs) → ArePreordered 1 (halves_of pairs) (take (suc (edges_of pairs)) front) start objects
-    → ArePlantable pairs (kinds_of (halves_of pairs) (drop (suc (edges_of pairs)) front) objects)
-plantable pairs front start objects is valid preordered =
-    let ranks : List ℕ = drop (suc (edges_of pairs)) front in
-    let p = made_preorder pairs front start objects is valid preordered in
-    let parts = front_parts pairs front valid in
-    let all : length (kinds_of (halves_of pairs) (drop (suc (edges_of pairs)) front) objects) ≡ suc (edges_of pairs) = length-map objects (kind_of (halves_of pairs) (drop (suc (edges_of pairs)) front)) ∙ p.long in
+pub plantable : (pairs : List (ℕ × ℕ)) (prefix : List ℕ) (start : ℕ) (objects : List ℕ) → IsProfile pairs → IsValidList prefix (eulerian_prefixes pairs) → ArePreordered 1 (halves_of pairs) (take (suc (edges_of pairs)) prefix) start objects
+    → ArePlantable pairs (kinds_of (halves_of pairs) (drop (suc (edges_of pairs)) prefix) objects)
+plantable pairs prefix start objects is valid preordered =
+    let ranks : List ℕ = drop (suc (edges_of pairs)) prefix in
+    let p = made_preorder pairs prefix start objects is valid preordered in
+    let parts = prefix_parts pairs prefix valid in
+    let all : length (kinds_of (halves_of pairs) (drop (suc (edges_of pairs)) prefix) objects) ≡ suc (edges_of pairs) = length-map objects (kind_of (halves_of pairs) (drop (suc (edges_of pairs)) prefix)) ∙ p.long in
     record {
-      each = are_kinds (halves_of pairs) (drop (suc (edges_of pairs)) front) objects (halves_are pairs is) parts.ranks_low;
+      each = are_kinds (halves_of pairs) (drop (suc (edges_of pairs)) prefix) objects (halves_are pairs is) parts.ranks_low;
       long = all;
       some = (let some = halves_some pairs is in let few = halves_few pairs is in omega (arith, all, some, few));
-      good = subst (IsGood 1) (sym (letters_of_kinds (halves_of pairs) (drop (suc (edges_of pairs)) front) objects)) p.good;
+      good = subst (IsGood 1) (sym (letters_of_kinds (halves_of pairs) (drop (suc (edges_of pairs)) prefix) objects)) p.good;
     }
 
-each_front : (pairs : List (ℕ × ℕ)) → IsProfile pairs → (front : List ℕ) → IsValidList front (eulerian_fronts pairs) → HasMade (MakesEulerian pairs) front
-each_front pairs is front valid =
-    let coded = (front_parts pairs front valid).coded in
-    let preorder = preorder_exists pairs (take (suc (edges_of pairs)) front) is coded.long coded.is_code in
-    let kinds = plantable pairs front preorder.start preorder.objects is valid preorder.are_preordered in
-    let planted = word_exists (kinds_of (halves_of pairs) (drop (suc (edges_of pairs)) front) preorder.objects) kinds.each kinds.some kinds.good in
+each_prefix : (pairs : List (ℕ × ℕ)) → IsProfile pairs → (prefix : List ℕ) → IsValidList prefix (eulerian_prefixes pairs) → HasMade (MakesEulerian pairs) prefix
+each_prefix pairs is prefix valid =
+    let coded = (prefix_parts pairs prefix valid).coded in
+    let preorder = preorder_exists pairs (take (suc (edges_of pairs)) prefix) is coded.long coded.is_code in
+    let kinds = plantable pairs prefix preorder.start preorder.objects is valid preorder.are_preordered in
+    let planted = word_exists (kinds_of (halves_of pairs) (drop (suc (edges_of pairs)) prefix) preorder.objects) kinds.each kinds.some kinds.good in
     record {
       word = planted.0;
       rest = preorder.start ∷ codes_by_degree pairs preorder.objects;
@@ -184,11 +184,11 @@ found_preorder pairs halves start codes code is f less coded good =
       are_turned = f.turned_is;
     }
 
--- objects of the kinds of a tree and their ranks, as a front
-pub front_of_objects : (pairs : List (ℕ × ℕ)) (kinds : List Kind) (start : ℕ) (codes word ranks : List ℕ) → IsProfile pairs → start < suc (edges_of pairs) → IsWordOfKinds kinds word
+-- objects of the kinds of a tree and their ranks, as a prefix
+pub prefix_of_objects : (pairs : List (ℕ × ℕ)) (kinds : List Kind) (start : ℕ) (codes word ranks : List ℕ) → IsProfile pairs → start < suc (edges_of pairs) → IsWordOfKinds kinds word
     → (f : AreFound (ranges_of pairs) (leaves_of_profile pairs) (halves_in kinds) start codes) → AreRanksOf pairs kinds f.objects ranks
-    → IsFrontOf (eulerian_fronts pairs) (MakesEulerian pairs) (code_of f.arrangement ++ ranks) word (start ∷ codes)
-front_of_objects pairs kinds start codes word ranks is less planted f r =
+    → IsPrefixOf (eulerian_prefixes pairs) (MakesEulerian pairs) (code_of f.arrangement ++ ranks) word (start ∷ codes)
+prefix_of_objects pairs kinds start codes word ranks is less planted f r =
     let m : ℕ = suc (edges_of pairs) in
     let long : length (code_of f.arrangement) ≡ suc (edges_of pairs) = length-code_of f.arrangement ∙ f.arranged_long ∙ all_of_profile pairs is in
     let good : IsGood 1 (letters_of (halves_of pairs) f.objects) = subst (IsGood 1) (sym (ap letters_in r.kinds_are) ∙ letters_of_kinds (halves_of pairs) ranks f.objects) (kinds_good kinds word planted) in
@@ -223,7 +223,7 @@ rest_parts pairs (start ∷ codes) valid = record {
   whole = refl;
 }
 
-each_tree : (pairs : List (ℕ × ℕ)) → IsProfile pairs → (word rest : List ℕ) → IsMade pairs (eulerian_rests pairs) word rest → HasFront (eulerian_fronts pairs) (MakesEulerian pairs) word rest
+each_tree : (pairs : List (ℕ × ℕ)) → IsProfile pairs → (word rest : List ℕ) → IsMade pairs (eulerian_rests pairs) word rest → HasPrefix (eulerian_prefixes pairs) (MakesEulerian pairs) word rest
 each_tree pairs is word rest made =
     let r = rest_parts pairs rest made.valid in
     let less = r.start_low in
@@ -235,29 +235,29 @@ each_tree pairs is word rest made =
     let f = objects_found (ranges_of pairs) (leaves_of_profile pairs) (profile_apart pairs is) (halves_in kinds.0) many (drop 1 rest) have (slice_index rest 0) (omega (arith, all, less)) in
     let ranks = ranks_exist pairs kinds.0 f.objects is (kinds_each kinds.0 word made.blossoming kinds.1) f.arities_are f.permute (f.long ∙ all) (omega (arith, few)) in
     record {
-      front = code_of f.arrangement ++ ranks.0;
-      is = subst (IsFrontOf (eulerian_fronts pairs) (MakesEulerian pairs) (code_of f.arrangement ++ ranks.0) word) (sym r.whole) (front_of_objects pairs kinds.0 (slice_index rest 0) (drop 1 rest) word ranks.0 is less kinds.1 f ranks.1);
+      prefix = code_of f.arrangement ++ ranks.0;
+      is = subst (IsPrefixOf (eulerian_prefixes pairs) (MakesEulerian pairs) (code_of f.arrangement ++ ranks.0) word) (sym r.whole) (prefix_of_objects pairs kinds.0 (slice_index rest 0) (drop 1 rest) word ranks.0 is less kinds.1 f ranks.1);
     }
 
-one_tree : (pairs : List (ℕ × ℕ)) → IsProfile pairs → (front word other rest more : List ℕ) → IsValidList front (eulerian_fronts pairs) → MakesEulerian pairs front word rest → MakesEulerian pairs front other more → (word ≡ other) × (rest ≡ more)
-one_tree pairs is front word other rest more valid x y =
-    let ranks : List ℕ = drop (suc (edges_of pairs)) front in
-    let one = one_preorder pairs (take (suc (edges_of pairs)) front) x.start y.start x.objects y.objects is (front_parts pairs front valid).coded.long x.are_preordered y.are_preordered in (
-      one_word (kinds_of (halves_of pairs) (drop (suc (edges_of pairs)) front) x.objects) word other x.is_planted (subst (λ (os : List ℕ). IsPlantedPlane (halves_of pairs) (drop (suc (edges_of pairs)) front) os other) (sym one.same) y.is_planted),
+one_tree : (pairs : List (ℕ × ℕ)) → IsProfile pairs → (prefix word other rest more : List ℕ) → IsValidList prefix (eulerian_prefixes pairs) → MakesEulerian pairs prefix word rest → MakesEulerian pairs prefix other more → (word ≡ other) × (rest ≡ more)
+one_tree pairs is prefix word other rest more valid x y =
+    let ranks : List ℕ = drop (suc (edges_of pairs)) prefix in
+    let one = one_preorder pairs (take (suc (edges_of pairs)) prefix) x.start y.start x.objects y.objects is (prefix_parts pairs prefix valid).coded.long x.are_preordered y.are_preordered in (
+      one_word (kinds_of (halves_of pairs) (drop (suc (edges_of pairs)) prefix) x.objects) word other x.is_planted (subst (λ (os : List ℕ). IsPlantedPlane (halves_of pairs) (drop (suc (edges_of pairs)) prefix) os other) (sym one.same) y.is_planted),
       x.rest_is ∙ ap₂ (λ (s : ℕ) (os : List ℕ). s ∷ codes_by_degree pairs os) one.starts one.same ∙ sym y.rest_is,
     )
 
-one_front : (pairs : List (ℕ × ℕ)) → IsProfile pairs → (front other word rest : List ℕ) → IsValidList front (eulerian_fronts pairs) → IsValidList other (eulerian_fronts pairs) → MakesEulerian pairs front word rest → MakesEulerian pairs other word rest → front ≡ other
-one_front pairs is front other word rest valid other_valid x y =
+one_prefix : (pairs : List (ℕ × ℕ)) → IsProfile pairs → (prefix other word rest : List ℕ) → IsValidList prefix (eulerian_prefixes pairs) → IsValidList other (eulerian_prefixes pairs) → MakesEulerian pairs prefix word rest → MakesEulerian pairs other word rest → prefix ≡ other
+one_prefix pairs is prefix other word rest valid other_valid x y =
     let m : ℕ = suc (edges_of pairs) in
     let halves : List ℕ = halves_of pairs in
-    let ranks : List ℕ = drop (suc (edges_of pairs)) front in
+    let ranks : List ℕ = drop (suc (edges_of pairs)) prefix in
     let other_ranks : List ℕ = drop (suc (edges_of pairs)) other in
-    let a = front_parts pairs front valid in
-    let b = front_parts pairs other other_valid in
-    let p = made_preorder pairs front x.start x.objects is valid x.are_preordered in
+    let a = prefix_parts pairs prefix valid in
+    let b = prefix_parts pairs other other_valid in
+    let p = made_preorder pairs prefix x.start x.objects is valid x.are_preordered in
     let q = made_preorder pairs other y.start y.objects is other_valid y.are_preordered in
-    let arranged : length x.are_preordered.arrangement ≡ suc (edges_of pairs) = length-arrangement (take m front) x.are_preordered.arrangement x.are_preordered.is_arranged ∙ a.coded.long in
+    let arranged : length x.are_preordered.arrangement ≡ suc (edges_of pairs) = length-arrangement (take m prefix) x.are_preordered.arrangement x.are_preordered.is_arranged ∙ a.coded.long in
     let other_arranged : length y.are_preordered.arrangement ≡ suc (edges_of pairs) = length-arrangement (take m other) y.are_preordered.arrangement y.are_preordered.is_arranged ∙ b.coded.long in
     let as_long : length x.are_preordered.arrangement ≡ length y.are_preordered.arrangement = arranged ∙ sym other_arranged in
     let rests : x.start ∷ codes_by_degree pairs x.objects ≡ y.start ∷ codes_by_degree pairs y.objects = sym x.rest_is ∙ y.rest_is in
@@ -271,28 +271,28 @@ one_front pairs is front other word rest valid other_valid x y =
     let arrangements : x.are_preordered.arrangement ≡ y.are_preordered.arrangement =
     turned_injective x.start x.are_preordered.arrangement y.are_preordered.arrangement as_long
     (sym x.are_preordered.are_turned ∙ objects ∙ y.are_preordered.are_turned ∙ ap (λ (s : ℕ). turned s y.are_preordered.arrangement) (sym starts)) in
-    let codes : take m front ≡ take m other = sym x.are_preordered.is_arranged.has_code ∙ ap code_of arrangements ∙ y.are_preordered.is_arranged.has_code in
+    let codes : take m prefix ≡ take m other = sym x.are_preordered.is_arranged.has_code ∙ ap code_of arrangements ∙ y.are_preordered.is_arranged.has_code in
     let few = halves_few pairs is in
     let all_ranks : ranks ≡ other_ranks =
     same_ranks halves ranks other_ranks x.objects a.ranks_long b.ranks_long (halves_are pairs is)
     (λ object less. object_stands x.start object x.are_preordered.arrangement x.objects x.are_preordered.is_arranged.is_permutation x.are_preordered.are_turned (omega (arith, less, few, arranged)))
     (kinds ∙ ap (kinds_of halves other_ranks) (sym objects)) in
-    sym (take-append-drop m front) ∙ ap₂ (λ (c r : List ℕ). c ++ r) codes all_ranks ∙ take-append-drop m other
+    sym (take-append-drop m prefix) ∙ ap₂ (λ (c r : List ℕ). c ++ r) codes all_ranks ∙ take-append-drop m other
 
-pub eulerian_makes : (pairs : List (ℕ × ℕ)) → IsProfile pairs → MakesTrees pairs (eulerian_fronts pairs) (eulerian_rests pairs) (MakesEulerian pairs)
+pub eulerian_makes : (pairs : List (ℕ × ℕ)) → IsProfile pairs → MakesTrees pairs (eulerian_prefixes pairs) (eulerian_rests pairs) (MakesEulerian pairs)
 eulerian_makes pairs is = record {
-  only = λ front word rest valid made. only pairs front word rest is valid made;
-  each_front = each_front pairs is;
+  only = λ prefix word rest valid made. only pairs prefix word rest is valid made;
+  each_prefix = each_prefix pairs is;
   each_tree = each_tree pairs is;
   one_tree = one_tree pairs is;
-  one_front = one_front pairs is;
+  one_prefix = one_prefix pairs is;
 }
 
 -- the residue is the rest and the old plant
 abbrev pub eulerian_parts : (pairs : List (ℕ × ℕ)) (residue : List ℕ) → IsValidList residue (eulerian_residues pairs) → HasParts (eulerian_rests pairs) (suc (leaves_of_profile pairs)) (λ rest old_plant. rest ++ old_plant ∷ []) residue
 eulerian_parts pairs residue valid =
     let p = valid_last residue (eulerian_rests pairs) (suc (leaves_of_profile pairs)) valid in
-    let parts = parts_are residue p.front p.last p.whole in
+    let parts = parts_are residue p.prefix p.last p.whole in
     record {
       rest = take (length residue - 1) residue;
       old_plant = slice_index residue (length residue - 1);
@@ -358,10 +358,10 @@ module _ (pairs : List (ℕ × ℕ)) (kinds : List Kind) (word rest : List ℕ) 
     pub objects_within : (k half rank : ℕ) → k < length kinds → slice_index_or kinds k Leaf ≡ Node half rank → slice_index objects k < nodes_of_profile pairs
     objects_within = node_within pairs kinds objects is (kinds_each kinds word made.blossoming planted) read.arities_are
 
-    pub front_read : (ranks front : List ℕ) → length ranks ≡ nodes_of_profile pairs
+    pub prefix_read : (ranks prefix : List ℕ) → length ranks ≡ nodes_of_profile pairs
         → ((k half rank : ℕ) → k < length kinds → slice_index_or kinds k Leaf ≡ Node half rank → slice_index ranks (slice_index objects k) ≡ rank)
-        → front ≡ code_of (turned (length objects - slice_index rest 0) objects) ++ ranks → IsFrontOf (eulerian_fronts pairs) (MakesEulerian pairs) front word rest
-    front_read ranks front long ranked e =
+        → prefix ≡ code_of (turned (length objects - slice_index rest 0) objects) ++ ranks → IsPrefixOf (eulerian_prefixes pairs) (MakesEulerian pairs) prefix word rest
+    prefix_read ranks prefix long ranked e =
         let p = rest_parts pairs rest made.valid in
         let less = p.start_low in
         let all = all_of_profile pairs is in
@@ -369,5 +369,5 @@ module _ (pairs : List (ℕ × ℕ)) (kinds : List Kind) (word rest : List ℕ) 
         let f = found_of_objects (ranges_of pairs) (leaves_of_profile pairs) (halves_in kinds) (slice_index rest 0) (drop 1 rest) objects
         (record { permute = read.permute; arities_are = read.arities_are; codes_are = read.codes_are ∙ codes_are }) (objects_total ∙ sym all) (omega (arith, all, less)) in
         let right = ranks_of pairs kinds objects is (kinds_each kinds word made.blossoming planted) read.arities_are ranks read.permute long ranked objects_total (omega (arith, few)) in
-        subst (λ (fs : List ℕ). IsFrontOf (eulerian_fronts pairs) (MakesEulerian pairs) fs word rest) (sym e)
-        (subst (IsFrontOf (eulerian_fronts pairs) (MakesEulerian pairs) (code_of f.arrangement ++ ranks) word) (sym p.whole) (front_of_objects pairs kinds (slice_index rest 0) (drop 1 rest) word ranks is less planted f right))
+        subst (λ (fs : List ℕ). IsPrefixOf (eulerian_prefixes pairs) (MakesEulerian pairs) fs word rest) (sym e)
+        (subst (IsPrefixOf (eulerian_prefixes pairs) (MakesEulerian pairs) (code_of f.arrangement ++ ranks) word) (sym p.whole) (prefix_of_objects pairs kinds (slice_index rest 0) (drop 1 rest) word ranks is less planted f right))

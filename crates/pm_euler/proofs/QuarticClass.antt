@@ -10,13 +10,13 @@ use Rattle.pm_map.proofs.ClassesKept.{quartic_kept}
 use Rattle.pm_class.specs.ClassLaws.{IsKeptByRenumbering, AreLimits, HasMostEdges}
 use Rattle.pm_class.specs.OneToOne.{AreOneToOne}
 use Rattle.pm_objects.specs.Codes.{code_bounds}
-use Rattle.pm_euler.specs.Bounds.{quartic_fronts, quartic_choices, quartic_residues}
+use Rattle.pm_euler.specs.Bounds.{quartic_prefixes, quartic_choices, quartic_residues}
 use Rattle.pm_euler.specs.Quartic.{MakesQuartic, quartic_pairs, IsQuarticSize, SamplesQuartic}
 use Rattle.pm_objects.proofs.CodeBounds.{length-code_bounds, code_bounds_low}
 use Rattle.pm_euler.proofs.BoundLemmas.{quartic_choices_are, quartic_choices_fit, quartic_residues_are, length-quartic_choices}
 use Rattle.pm_euler.proofs.QuarticMaps.{quartic_maps, quartic_darts}
 
-pub quartic_class : (n : ℕ) → IsQuarticSize n → IsTreeClass (quartic_pairs n) (quartic_fronts n) (code_bounds (n + 1)) (quartic_residues n) (λ m. IsQuartic (structure_of m) n) (MakesQuartic n) (λ rest old_plant. old_plant ∷ rest)
+pub quartic_class : (n : ℕ) → IsQuarticSize n → IsTreeClass (quartic_pairs n) (quartic_prefixes n) (code_bounds (n + 1)) (quartic_residues n) (λ m. IsQuartic (structure_of m) n) (MakesQuartic n) (λ rest old_plant. old_plant ∷ rest)
 quartic_class n size = record { profile = quartic_profile n size; maps = quartic_maps n size; trees = quartic_makes n size; joins = quartic_joins n }
 
 pub quartic_one_to_one : (n : ℕ) → IsQuarticSize n → AreOneToOne (quartic_choices n) (quartic_residues n) (λ m. IsQuartic (structure_of m) n) (SamplesQuartic n)

@@ -21,14 +21,14 @@ use Rattle.pm_trees.specs.Pairs.{IsProfile, IsRightPair, pair_at}
 use Rattle.pm_objects.specs.Codes.{code_bounds}
 use Rattle.pm_objects.proofs.CodeBounds.{valid_append, valid_code, valid_cons}
 use Rattle.pm_objects.proofs.RangeCodes.{code_from_valid, valid_parts}
-use Rattle.pm_euler.specs.Bounds.{growth_bounds, quartic_fronts, quartic_residues}
+use Rattle.pm_euler.specs.Bounds.{growth_bounds, quartic_prefixes, quartic_residues}
 use Rattle.pm_euler.specs.Objects.{leaves_of_profile, nodes_of_profile}
 use Rattle.pm_euler.specs.Planted.{kinds_of_shape, IsPlanted}
 use Rattle.pm_euler.specs.Quartic.{IsQuarticSize, MakesQuartic, quartic_pairs}
-use Rattle.pm_euler.specs.Sampled.{HasNodes, IsFrontOf, IsMade}
+use Rattle.pm_euler.specs.Sampled.{HasNodes, IsPrefixOf, IsMade}
 use Rattle.pm_euler.proofs.BoundLemmas.{growth_bound, length-growth_bounds}
 use Rattle.pm_euler.proofs.QuarticTrees.{planted_from_shape, IsPlantedWord, planted_blossoming, planted_exists, planted_fours, planted_from_word, planted_no_other, planted_ranks, planted_reads_once, planted_relabelled, planted_unique}
-use Rattle.pm_euler.proofs.TreeSamples.{HasFront, HasMade, HasParts, JoinsRests, MakesTrees}
+use Rattle.pm_euler.proofs.TreeSamples.{HasPrefix, HasMade, HasParts, JoinsRests, MakesTrees}
 
 -- the numbers of a growth and the ranks are those that are valid
 choices_from_valid : (n : ℕ) (growth : List ℕ) → IsValidList growth (growth_bounds 0 n) → IsChoices growth
@@ -56,27 +56,27 @@ valid_ranks n ranks low long = record {
   below = λ k less. subst (λ (x : ℕ). slice_index ranks k < x) (sym (get_or-replicate n k 3 0 (omega (arith, less, long)))) (low k 0 less);
 }
 
--- the two parts of a valid front
-pub record AreParts (n : ℕ) (front : List ℕ) : Type 0 where
-  pub growth : IsChoices (take n front)
-  pub forks : leaves (grown (take n front)) ≡ suc n
-  pub ranks_long : length (drop n front) ≡ n
-  pub ranks_low : All (λ rank. rank < 3) (drop n front)
+-- the two parts of a valid prefix
+pub record AreParts (n : ℕ) (prefix : List ℕ) : Type 0 where
+  pub growth : IsChoices (take n prefix)
+  pub forks : leaves (grown (take n prefix)) ≡ suc n
+  pub ranks_long : length (drop n prefix) ≡ n
+  pub ranks_low : All (λ rank. rank < 3) (drop n prefix)
 
-pub front_parts : (n : ℕ) (front : List ℕ) → IsValidList front (quartic_fronts n) → AreParts n front
-front_parts n front valid =
-    let v = valid_parts n front (growth_bounds 0 n) (replicate n 3) (length-growth_bounds 0 n) valid in
-    let growth : IsChoices (take n front) = choices_from_valid n (take n front) v.0 in
+pub prefix_parts : (n : ℕ) (prefix : List ℕ) → IsValidList prefix (quartic_prefixes n) → AreParts n prefix
+prefix_parts n prefix valid =
+    let v = valid_parts n prefix (growth_bounds 0 n) (replicate n 3) (length-growth_bounds 0 n) valid in
+    let growth : IsChoices (take n prefix) = choices_from_valid n (take n prefix) v.0 in
     record {
       growth = growth;
-      forks = growth_leaves (take n front) growth ∙ ap suc (v.0.as_long ∙ length-growth_bounds 0 n);
+      forks = growth_leaves (take n prefix) growth ∙ ap suc (v.0.as_long ∙ length-growth_bounds 0 n);
       ranks_long = v.1.as_long ∙ length-replicate n 3;
-      ranks_low = ranks_from_valid n (drop n front) v.1;
+      ranks_low = ranks_from_valid n (drop n prefix) v.1;
     }
 
 -- all that is behind the growth
-pub ranks_cut : (n : ℕ) (front : List ℕ) → take (length front - n) (drop n front) ≡ drop n front
-ranks_cut n front = take_all (length front - n) (drop n front) (omega (arith, length-drop n front))
+pub ranks_cut : (n : ℕ) (prefix : List ℕ) → take (length prefix - n) (drop n prefix) ≡ drop n prefix
+ranks_cut n prefix = take_all (length prefix - n) (drop n prefix) (omega (arith, length-drop n prefix))
 
 -- trees whose nodes have degree 4, as many as the size
 fours : (n : ℕ) (word : List ℕ) → nodes_of word 4 ≡ n → ((d : ℕ) → (d ≡ 4 → ⊥) → nodes_of word d ≡ 0) → HasNodes word (quartic_pairs n)
@@ -91,31 +91,31 @@ no_other n word has d other = has.others d each where
   each zero less e = other (sym e)
   each (suc k) less e = absurd (omega (arith, less))
 
-only : (n : ℕ) → IsQuarticSize n → (front word rest : List ℕ) → IsValidList front (quartic_fronts n) → MakesQuartic n front word rest → IsMade (quartic_pairs n) (code_bounds (n + 1)) word rest
-only n size front word rest valid made =
-    let parts = front_parts n front valid in
-    let tree : Tree = grown (take n front) in
+only : (n : ℕ) → IsQuarticSize n → (prefix word rest : List ℕ) → IsValidList prefix (quartic_prefixes n) → MakesQuartic n prefix word rest → IsMade (quartic_pairs n) (code_bounds (n + 1)) word rest
+only n size prefix word rest valid made =
+    let parts = prefix_parts n prefix valid in
+    let tree : Tree = grown (take n prefix) in
     let long = parts.ranks_long in
     let few = size.few in
-    let labels : length (labels_of (grown (take n front))) ≡ n + 1 = (let f = parts.forks in omega (arith, f)) in
+    let labels : length (labels_of (grown (take n prefix))) ≡ n + 1 = (let f = parts.forks in omega (arith, f)) in
     record {
-      blossoming = planted_blossoming (grown (take n front)) (drop n front) word made.is_planted (omega (arith, long, few));
-      nodes = fours n word (planted_fours (grown (take n front)) (drop n front) word made.is_planted ∙ long) (planted_no_other (grown (take n front)) (drop n front) word made.is_planted);
-      valid = subst (λ (r : List ℕ). IsValidList r (code_bounds (n + 1))) (sym made.rest_is) (valid_code (n + 1) (labels_of (grown (take n front))) labels);
+      blossoming = planted_blossoming (grown (take n prefix)) (drop n prefix) word made.is_planted (omega (arith, long, few));
+      nodes = fours n word (planted_fours (grown (take n prefix)) (drop n prefix) word made.is_planted ∙ long) (planted_no_other (grown (take n prefix)) (drop n prefix) word made.is_planted);
+      valid = subst (λ (r : List ℕ). IsValidList r (code_bounds (n + 1))) (sym made.rest_is) (valid_code (n + 1) (labels_of (grown (take n prefix))) labels);
     }
 
-each_front : (n : ℕ) → IsQuarticSize n → (front : List ℕ) → IsValidList front (quartic_fronts n) → HasMade (MakesQuartic n) front
-each_front n size front valid =
-    let parts = front_parts n front valid in
+each_prefix : (n : ℕ) → IsQuarticSize n → (prefix : List ℕ) → IsValidList prefix (quartic_prefixes n) → HasMade (MakesQuartic n) prefix
+each_prefix n size prefix valid =
+    let parts = prefix_parts n prefix valid in
     let some = size.some in
     let long = parts.ranks_long in
-    let planted = planted_exists (grown (take n front)) (drop n front) (parts.forks ∙ ap suc (sym long)) (omega (arith, some, long)) parts.ranks_low in
-    record { word = planted.0; rest = code_of (labels_of (grown (take n front))); is_made = record { is_planted = planted.1; rest_is = refl } }
+    let planted = planted_exists (grown (take n prefix)) (drop n prefix) (parts.forks ∙ ap suc (sym long)) (omega (arith, some, long)) parts.ranks_low in
+    record { word = planted.0; rest = code_of (labels_of (grown (take n prefix))); is_made = record { is_planted = planted.1; rest_is = refl } }
 
--- a tree with the shape of the planted one and the labels with the code, as a front
-pub front_of_labels : (n : ℕ) (shaped labelled : Tree) (growth ranks labels rest word : List ℕ) → IsBlossoming word → IsPlanted shaped ranks word → length ranks ≡ n → shape_of labelled ≡ shape_of shaped → labels_of labelled ≡ labels
-    → IsArrangementOf rest labels → IsGrowth growth labelled → IsFrontOf (quartic_fronts n) (MakesQuartic n) (growth ++ ranks) word rest
-front_of_labels n shaped labelled growth ranks labels rest word tree planted long shapes labels_are arranged grows =
+-- a tree with the shape of the planted one and the labels with the code, as a prefix
+pub prefix_of_labels : (n : ℕ) (shaped labelled : Tree) (growth ranks labels rest word : List ℕ) → IsBlossoming word → IsPlanted shaped ranks word → length ranks ≡ n → shape_of labelled ≡ shape_of shaped → labels_of labelled ≡ labels
+    → IsArrangementOf rest labels → IsGrowth growth labelled → IsPrefixOf (quartic_prefixes n) (MakesQuartic n) (growth ++ ranks) word rest
+prefix_of_labels n shaped labelled growth ranks labels rest word tree planted long shapes labels_are arranged grows =
     let a = growth_leaves growth grows.valid in
     let b = ap leaves grows.grows in
     let c = ap leaves_in (sym shapes) in
@@ -132,7 +132,7 @@ front_of_labels n shaped labelled growth ranks labels rest word tree planted lon
       };
     }
 
-each_tree : (n : ℕ) (word rest : List ℕ) → IsMade (quartic_pairs n) (code_bounds (n + 1)) word rest → HasFront (quartic_fronts n) (MakesQuartic n) word rest
+each_tree : (n : ℕ) (word rest : List ℕ) → IsMade (quartic_pairs n) (code_bounds (n + 1)) word rest → HasPrefix (quartic_prefixes n) (MakesQuartic n) word rest
 each_tree n word rest made =
     let read = planted_from_word word made.blossoming (no_other n word made.nodes) in
     let shaped : Tree = read.is.tree in
@@ -147,8 +147,8 @@ each_tree n word rest made =
     let grows : IsGrowth (ungrown n (tree_of (shape_of read.is.tree) found.0)) (tree_of (shape_of read.is.tree) found.0) =
     growth-ungrown n (tree_of (shape_of read.is.tree) found.0) (let l = ap length whole.labels_stand in omega (arith, as_long, coded_long, l)) (subst (λ (xs : List ℕ). IsPermutationList xs) (sym whole.labels_stand) found.1.is_permutation) in
     record {
-      front = ungrown n tree ++ read.ranks;
-      is = front_of_labels n shaped tree (ungrown n tree) read.ranks found.0 rest word made.blossoming read.is.is_planted many whole.shape whole.labels_stand found.1 grows;
+      prefix = ungrown n tree ++ read.ranks;
+      is = prefix_of_labels n shaped tree (ungrown n tree) read.ranks found.0 rest word made.blossoming read.is.is_planted many whole.shape whole.labels_stand found.1 grows;
     }
 
 -- two permutations with one code
@@ -157,21 +157,21 @@ same_labels one other h k e =
     IsArrangementOf-unique (code_of (labels_of (grown other))) (labels_of (grown one)) (labels_of (grown other))
     (record { is_permutation = labels-grown one h; has_code = e }) (record { is_permutation = labels-grown other k; has_code = refl })
 
-one_front : (n : ℕ) (front other word rest : List ℕ) → IsValidList front (quartic_fronts n) → IsValidList other (quartic_fronts n) → MakesQuartic n front word rest → MakesQuartic n other word rest → front ≡ other
-one_front n front other word rest valid others x y =
-    let g = (front_parts n front valid).growth in
-    let h = (front_parts n other others).growth in
-    let read = planted_reads_once (grown (take n front)) (drop n front) (grown (take n other)) (drop n other) word x.is_planted y.is_planted in
-    let trees = same_tree (grown (take n front)) (grown (take n other)) read.shapes (same_labels (take n front) (take n other) g h (sym x.rest_is ∙ y.rest_is)) in
-    sym (take-append-drop n front) ∙ ap₂ (λ (xs ys : List ℕ). xs ++ ys) (grown-injective (take n front) (take n other) g h trees) read.ranks_are ∙ take-append-drop n other
+one_prefix : (n : ℕ) (prefix other word rest : List ℕ) → IsValidList prefix (quartic_prefixes n) → IsValidList other (quartic_prefixes n) → MakesQuartic n prefix word rest → MakesQuartic n other word rest → prefix ≡ other
+one_prefix n prefix other word rest valid others x y =
+    let g = (prefix_parts n prefix valid).growth in
+    let h = (prefix_parts n other others).growth in
+    let read = planted_reads_once (grown (take n prefix)) (drop n prefix) (grown (take n other)) (drop n other) word x.is_planted y.is_planted in
+    let trees = same_tree (grown (take n prefix)) (grown (take n other)) read.shapes (same_labels (take n prefix) (take n other) g h (sym x.rest_is ∙ y.rest_is)) in
+    sym (take-append-drop n prefix) ∙ ap₂ (λ (xs ys : List ℕ). xs ++ ys) (grown-injective (take n prefix) (take n other) g h trees) read.ranks_are ∙ take-append-drop n other
 
-pub quartic_makes : (n : ℕ) → IsQuarticSize n → MakesTrees (quartic_pairs n) (quartic_fronts n) (code_bounds (n + 1)) (MakesQuartic n)
+pub quartic_makes : (n : ℕ) → IsQuarticSize n → MakesTrees (quartic_pairs n) (quartic_prefixes n) (code_bounds (n + 1)) (MakesQuartic n)
 quartic_makes n size = record {
   only = only n size;
-  each_front = each_front n size;
+  each_prefix = each_prefix n size;
   each_tree = each_tree n;
-  one_tree = λ front word other rest more valid x y. (planted_unique (grown (take n front)) (drop n front) word other x.is_planted y.is_planted, x.rest_is ∙ sym y.rest_is);
-  one_front = one_front n;
+  one_tree = λ prefix word other rest more valid x y. (planted_unique (grown (take n prefix)) (drop n prefix) word other x.is_planted y.is_planted, x.rest_is ∙ sym y.rest_is);
+  one_prefix = one_prefix n;
 }
 
 -- the profile of the size

@@ -67,14 +67,14 @@ shape_is_good : (nodes : List Bool) → IsShape nodes → IsGood 1 (steps nodes)
 shape_is_good nodes shape = record {
   sum = omega (arith, ints, shape.sum, steps_sum nodes);
   above = λ k less.
-      let fronts = shape.fronts k (omega (arith, less, length-steps nodes)) in
-      omega (arith, ints, fronts, ap sum_of (steps-take k nodes), steps_sum (take k nodes));
+      let prefixes = shape.prefixes k (omega (arith, less, length-steps nodes)) in
+      omega (arith, ints, prefixes, ap sum_of (steps-take k nodes), steps_sum (take k nodes));
 }
 
 good_is_shape : (nodes : List Bool) → IsGood 1 (steps nodes) → IsShape nodes
 good_is_shape nodes good = record {
   sum = omega (arith, ints, good.sum, steps_sum nodes);
-  fronts = λ k less.
+  prefixes = λ k less.
       let above = good.above k (omega (arith, less, length-steps nodes)) in
       omega (arith, ints, above, ap sum_of (steps-take k nodes), steps_sum (take k nodes));
 }
@@ -320,19 +320,19 @@ module _ (kinds : List Kind) (nodes more : List Bool) (ranks all : List ℕ) (pl
   pub read_leaf : slice_index_or kinds place Leaf ≡ Leaf → more ≡ nodes ++ false ∷ [] → all ≡ ranks → AreRead kinds more all (place + 1)
   unfolding nodes_in ranks_in
   read_leaf here n r =
-      let front : take (place + 1) kinds ≡ take place kinds ++ Leaf ∷ [] = take_more kinds place Leaf less ∙ ap (λ (k : Kind). take place kinds ++ k ∷ []) here in
+      let prefix : take (place + 1) kinds ≡ take place kinds ++ Leaf ∷ [] = take_more kinds place Leaf less ∙ ap (λ (k : Kind). take place kinds ++ k ∷ []) here in
       record {
-        nodes_are = n ∙ ap (λ (bs : List Bool). bs ++ false ∷ []) a.nodes_are ∙ sym (ap nodes_in front ∙ nodes-push (take place kinds) Leaf);
-        ranks_are = r ∙ a.ranks_are ∙ sym (append-nil (ranks_in (take place kinds))) ∙ sym (ap ranks_in front ∙ ranks-push (take place kinds) Leaf);
+        nodes_are = n ∙ ap (λ (bs : List Bool). bs ++ false ∷ []) a.nodes_are ∙ sym (ap nodes_in prefix ∙ nodes-push (take place kinds) Leaf);
+        ranks_are = r ∙ a.ranks_are ∙ sym (append-nil (ranks_in (take place kinds))) ∙ sym (ap ranks_in prefix ∙ ranks-push (take place kinds) Leaf);
       }
 
   pub read_node : (half rank : ℕ) → slice_index_or kinds place Leaf ≡ Node half rank → more ≡ nodes ++ true ∷ [] → all ≡ ranks ++ rank ∷ [] → AreRead kinds more all (place + 1)
   unfolding nodes_in ranks_in
   read_node half rank here n r =
-      let front : take (place + 1) kinds ≡ take place kinds ++ Node half rank ∷ [] = take_more kinds place Leaf less ∙ ap (λ (k : Kind). take place kinds ++ k ∷ []) here in
+      let prefix : take (place + 1) kinds ≡ take place kinds ++ Node half rank ∷ [] = take_more kinds place Leaf less ∙ ap (λ (k : Kind). take place kinds ++ k ∷ []) here in
       record {
-        nodes_are = n ∙ ap (λ (bs : List Bool). bs ++ true ∷ []) a.nodes_are ∙ sym (ap nodes_in front ∙ nodes-push (take place kinds) (Node half rank));
-        ranks_are = r ∙ ap (λ (rs : List ℕ). rs ++ rank ∷ []) a.ranks_are ∙ sym (ap ranks_in front ∙ ranks-push (take place kinds) (Node half rank));
+        nodes_are = n ∙ ap (λ (bs : List Bool). bs ++ true ∷ []) a.nodes_are ∙ sym (ap nodes_in prefix ∙ nodes-push (take place kinds) (Node half rank));
+        ranks_are = r ∙ ap (λ (rs : List ℕ). rs ++ rank ∷ []) a.ranks_are ∙ sym (ap ranks_in prefix ∙ ranks-push (take place kinds) (Node half rank));
       }
 
 -- all of them are read

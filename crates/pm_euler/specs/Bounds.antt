@@ -11,11 +11,11 @@ growth_bounds grown zero = []
 growth_bounds grown (suc n) = 2 * (2 * grown + 1) ∷ growth_bounds (suc grown) n
 
 -- of quartic maps with n vertices: the growth and a pattern for each node, and then which free leaf
-abbrev pub quartic_fronts : ℕ → List ℕ
-quartic_fronts n = growth_bounds 0 n ++ replicate n 3
+abbrev pub quartic_prefixes : ℕ → List ℕ
+quartic_prefixes n = growth_bounds 0 n ++ replicate n 3
 
 abbrev pub quartic_choices : ℕ → List ℕ
-quartic_choices n = quartic_fronts n ++ 2 ∷ []
+quartic_choices n = quartic_prefixes n ++ 2 ∷ []
 
 -- and which leaf the old plant is, of n + 2, and the arrangement code of the other leaves
 abbrev pub quartic_residues : ℕ → List ℕ
@@ -23,11 +23,11 @@ quartic_residues n = (n + 2) ∷ code_bounds (n + 1)
 
 -- of maps with these degrees: the code of an arrangement of the objects and a pattern for each node object, and then which
 -- free leaf
-abbrev pub eulerian_fronts : List (ℕ × ℕ) → List ℕ
-eulerian_fronts pairs = code_bounds (suc (edges_of pairs)) ++ map (λ half. choose (2 * half - 1) half) (halves_of pairs)
+abbrev pub eulerian_prefixes : List (ℕ × ℕ) → List ℕ
+eulerian_prefixes pairs = code_bounds (suc (edges_of pairs)) ++ map (λ half. choose (2 * half - 1) half) (halves_of pairs)
 
 abbrev pub eulerian_choices : List (ℕ × ℕ) → List ℕ
-eulerian_choices pairs = eulerian_fronts pairs ++ 2 ∷ []
+eulerian_choices pairs = eulerian_prefixes pairs ++ 2 ∷ []
 
 -- and the start of the preorder, for each degree the code of its objects and the code of the leaf objects, and then which leaf
 -- the old plant is

@@ -8,7 +8,7 @@ use Rattle.pm_map.specs.ClassRules.{IsLeastOther}
 use Rattle.pm_map.specs.declared.admitted.Degrees.TheVariants.{EvenUpTo}
 use Rattle.pm_map.specs.declared.class_refusal.ClassRefusal.{ClassRefusal}
 use Rattle.pm_map.specs.declared.class_refusal.ClassRefusal.TheVariants.{Memory, Empty, TooMany, Vertex, Face, Loop, Double}
-use Rattle.pm_euler.specs.Bounds.{eulerian_fronts}
+use Rattle.pm_euler.specs.Bounds.{eulerian_prefixes}
 use Rattle.pm_objects.specs.Codes.{codes_by_range}
 use Rattle.pm_objects.specs.Preorder.{ArePreordered}
 use Rattle.pm_euler.specs.Objects.{IsPlantedPlane, halves_of, ranges_of}
@@ -20,16 +20,16 @@ codes_by_degree pairs objects = codes_by_range (ranges_of pairs) objects
 
 -- The first numbers are the code of an arrangement of the objects, which read from its good start is the preorder of a plane
 -- tree. The next ones are the patterns of the node objects. The rest is the start and the codes by degree.
-pub record MakesEulerian (pairs : List (ℕ × ℕ)) (front word rest : List ℕ) : Type 0 where
+pub record MakesEulerian (pairs : List (ℕ × ℕ)) (prefix word rest : List ℕ) : Type 0 where
   pub start : ℕ
   pub objects : List ℕ
-  pub are_preordered : ArePreordered 1 (halves_of pairs) (take (suc (edges_of pairs)) front) start objects
-  pub is_planted : IsPlantedPlane (halves_of pairs) (drop (suc (edges_of pairs)) front) objects word
+  pub are_preordered : ArePreordered 1 (halves_of pairs) (take (suc (edges_of pairs)) prefix) start objects
+  pub is_planted : IsPlantedPlane (halves_of pairs) (drop (suc (edges_of pairs)) prefix) objects word
   pub rest_is : rest ≡ start ∷ codes_by_degree pairs objects
 
 -- the residue is the rest, and the number of the old plant
 abbrev pub SamplesEulerian : List (ℕ × ℕ) → List ℕ → RotationSystem → List ℕ → Type 0
-SamplesEulerian pairs choices map residue = SamplesByTree (eulerian_fronts pairs) (MakesEulerian pairs) (λ rest old_plant. rest ++ old_plant ∷ []) choices map residue
+SamplesEulerian pairs choices map residue = SamplesByTree (eulerian_prefixes pairs) (MakesEulerian pairs) (λ rest old_plant. rest ++ old_plant ∷ []) choices map residue
 
 -- What a map is answered that should have vertices of even degrees: how many it has of which degree, or the first rule
 -- that it breaks. Want of memory may come at any map.

@@ -5,7 +5,7 @@ use Rattle.pm_lehmer.specs.Lehmer.{code_of}
 use Rattle.pm_remy.specs.Tree.{labels_of}
 use Rattle.pm_remy.specs.Growth.{grown}
 use Rattle.pm_map.specs.Rotation.{RotationSystem}
-use Rattle.pm_euler.specs.Bounds.{quartic_fronts}
+use Rattle.pm_euler.specs.Bounds.{quartic_prefixes}
 use Rattle.pm_euler.specs.Planted.{IsPlanted}
 use Rattle.pm_euler.specs.Sampled.{SamplesByTree}
 
@@ -20,10 +20,10 @@ quartic_pairs n = (4, n) ∷ []
 
 -- The first n numbers grow a binary tree with labels; the next n are the patterns of its forks in preorder. The rest is the
 -- arrangement code of the labels from left to right.
-pub record MakesQuartic (n : ℕ) (front word rest : List ℕ) : Type 0 where
-  pub is_planted : IsPlanted (grown (take n front)) (drop n front) word
-  pub rest_is : rest ≡ code_of (labels_of (grown (take n front)))
+pub record MakesQuartic (n : ℕ) (prefix word rest : List ℕ) : Type 0 where
+  pub is_planted : IsPlanted (grown (take n prefix)) (drop n prefix) word
+  pub rest_is : rest ≡ code_of (labels_of (grown (take n prefix)))
 
 -- the residue is the number of the old plant, and the rest
 abbrev pub SamplesQuartic : ℕ → List ℕ → RotationSystem → List ℕ → Type 0
-SamplesQuartic n choices map residue = SamplesByTree (quartic_fronts n) (MakesQuartic n) (λ rest old_plant. old_plant ∷ rest) choices map residue
+SamplesQuartic n choices map residue = SamplesByTree (quartic_prefixes n) (MakesQuartic n) (λ rest old_plant. old_plant ∷ rest) choices map residue

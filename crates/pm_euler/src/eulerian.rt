@@ -7,10 +7,10 @@ ghost use Rattle.pm_map.specs.Rotation.{structure_of};
 ghost use Rattle.pm_trees.specs.Pairs.{IsProfile, edges_of};
 ghost use Rattle.pm_class.specs.Sampling.{IsSampledUnnamed};
 ghost use Rattle.pm_lists.specs.Valid.{IsValidList};
-ghost use Rattle.pm_euler.specs.Bounds.{eulerian_choices, eulerian_fronts, eulerian_residues, eulerian_rests};
+ghost use Rattle.pm_euler.specs.Bounds.{eulerian_choices, eulerian_prefixes, eulerian_residues, eulerian_rests};
 ghost use Rattle.pm_objects.specs.Preorder.{ArePreordered};
 ghost use Rattle.pm_euler.specs.Eulerian.{IsEulerianAnswer, MakesEulerian, SamplesEulerian, codes_by_degree};
-ghost use Rattle.pm_euler.specs.Sampled.{IsFrontOf, IsMade};
+ghost use Rattle.pm_euler.specs.Sampled.{IsPrefixOf, IsMade};
 ghost use Rattle.pm_euler.specs.Objects.{halves_of};
 
 use crate::anew::closed_anew;
@@ -102,7 +102,7 @@ impl MapClass for Eulerian {
         let _edges = map.edges();
         let last = residue.len() - 1;
         let unplanted = unplant(alloc, map, residue[last] as u32)?;
-        let mut choices = front_of(alloc, size, &unplanted.tree, &residue[..last])?;
+        let mut choices = prefix_of(alloc, size, &unplanted.tree, &residue[..last])?;
         choices.push(unplanted.free)?;
         Ok(NumList::of(choices))
     }
@@ -131,15 +131,15 @@ fn preorder_of(alloc: Global, halves: &[u32], code: &[u64]) -> Result<Preorder, 
 }
 
 /// The first step: the objects in preorder are planted, and the rest is their start and their codes by degree.
-fn make(alloc: Global, size: &Profile, front: &[u64]) -> Result<Made, AllocError>
+fn make(alloc: Global, size: &Profile, prefix: &[u64]) -> Result<Made, AllocError>
     requires size { IsProfile size.now }
-    requires valid { IsValidList front.now (eulerian_fronts size.now) }
-    ensures { IfOk result (λ made. MakesEulerian size.now front.now made.tree made.rest.items) }
+    requires valid { IsValidList prefix.now (eulerian_prefixes size.now) }
+    ensures { IfOk result (λ made. MakesEulerian size.now prefix.now made.tree made.rest.items) }
 {
     let halves = halves_of(alloc, size)?;
     let objects = size.edges() as usize + 1;
-    let preorder = preorder_of(alloc, &halves, &front[..objects])?;
-    let kinds = kinds_of(alloc, &halves, &front[objects..], &preorder.objects)?;
+    let preorder = preorder_of(alloc, &halves, &prefix[..objects])?;
+    let kinds = kinds_of(alloc, &halves, &prefix[objects..], &preorder.objects)?;
     let tree = plant_plane(alloc, &kinds)?;
     let rest = rest_of(alloc, size, &halves, &preorder)?;
     Ok(Made { tree, rest })
@@ -164,8 +164,8 @@ fn rest_of(
     Ok(rest)
 }
 
-/// The first step undone: the front that makes this tree and this rest.
-fn front_of(
+/// The first step undone: the prefix that makes this tree and this rest.
+fn prefix_of(
     alloc: Global,
     size: &Profile,
     tree: &Tree,
@@ -173,7 +173,7 @@ fn front_of(
 ) -> Result<Vec<u64>, AllocError>
     requires size { IsProfile size.now }
     requires made { IsMade size.now (eulerian_rests size.now) tree.now rest.now }
-    ensures { IfOk result (λ front. IsFrontOf (eulerian_fronts size.now) (MakesEulerian size.now) front.items tree.now rest.now) }
+    ensures { IfOk result (λ prefix. IsPrefixOf (eulerian_prefixes size.now) (MakesEulerian size.now) prefix.items tree.now rest.now) }
 {
     let kinds = kinds_of_tree(alloc, tree)?;
     let ranges = ranges_of(alloc, size)?;
@@ -181,7 +181,7 @@ fn front_of(
     let objects = objects_of_codes(alloc, &ranges, &halves, &rest[1..])?;
     let ranks = ranks_by_object(alloc, nodes_of(size) as usize, &kinds, &objects)?;
     let arrangement = turned_back(alloc, &objects, rest[0] as u32)?;
-    let mut front = code(alloc, &arrangement)?;
-    front.extend_from_slice(&ranks)?;
-    Ok(front)
+    let mut prefix = code(alloc, &arrangement)?;
+    prefix.extend_from_slice(&ranks)?;
+    Ok(prefix)
 }

@@ -7,9 +7,9 @@ ghost use Rattle.pm_map.specs.ClassRules.{IsQuarticAnswer};
 ghost use Rattle.pm_map.specs.Classes.{IsQuartic};
 ghost use Rattle.pm_map.specs.Rotation.{structure_of};
 ghost use Rattle.pm_objects.specs.Codes.{code_bounds};
-ghost use Rattle.pm_euler.specs.Bounds.{quartic_choices, quartic_fronts, quartic_residues};
+ghost use Rattle.pm_euler.specs.Bounds.{quartic_choices, quartic_prefixes, quartic_residues};
 ghost use Rattle.pm_euler.specs.Quartic.{IsQuarticSize, MakesQuartic, SamplesQuartic, quartic_pairs};
-ghost use Rattle.pm_euler.specs.Sampled.{IsFrontOf, IsMade};
+ghost use Rattle.pm_euler.specs.Sampled.{IsPrefixOf, IsMade};
 
 use crate::anew::closed_anew;
 use crate::bounds::{limits_of_growth, limits_with_code};
@@ -98,7 +98,7 @@ impl MapClass for Quartic {
         // Its contract says that the map is a rooted one; so its tree has as many nodes of each degree as it has vertices.
         let _edges = map.edges();
         let unplanted = unplant(alloc, map, residue[0] as u32)?;
-        let mut choices = front_of(alloc, *size, &unplanted.tree, &residue[1..])?;
+        let mut choices = prefix_of(alloc, *size, &unplanted.tree, &residue[1..])?;
         choices.push(unplanted.free)?;
         Ok(NumList::of(choices))
     }
@@ -117,30 +117,30 @@ fn limits_of_choices(alloc: Global, size: u32) -> Result<Vec<u64>, AllocError>
     Ok(limits)
 }
 
-/// The first step: the front grows a binary tree, which is planted, and the rest is the code of its labels.
-fn make(alloc: Global, size: u32, front: &[u64]) -> Result<Made, AllocError>
+/// The first step: the prefix grows a binary tree, which is planted, and the rest is the code of its labels.
+fn make(alloc: Global, size: u32, prefix: &[u64]) -> Result<Made, AllocError>
     requires size { IsQuarticSize size }
-    requires valid { IsValidList front.now (quartic_fronts size) }
-    ensures { IfOk result (λ made. MakesQuartic size front.now made.tree made.rest.items) }
+    requires valid { IsValidList prefix.now (quartic_prefixes size) }
+    ensures { IfOk result (λ made. MakesQuartic size prefix.now made.tree made.rest.items) }
 {
     let forks = size as usize;
-    let grown = grow(alloc, &front[..forks])?;
-    let tree = plant(alloc, &grown, &front[forks..])?;
+    let grown = grow(alloc, &prefix[..forks])?;
+    let tree = plant(alloc, &grown, &prefix[forks..])?;
     let leaf_labels = labels(alloc, &grown)?;
     let rest = code(alloc, &leaf_labels)?;
     Ok(Made { tree, rest })
 }
 
-/// The first step undone: the front that makes this tree and this rest.
-fn front_of(alloc: Global, size: u32, tree: &Tree, rest: &[u64]) -> Result<Vec<u64>, AllocError>
+/// The first step undone: the prefix that makes this tree and this rest.
+fn prefix_of(alloc: Global, size: u32, tree: &Tree, rest: &[u64]) -> Result<Vec<u64>, AllocError>
     requires size { IsQuarticSize size }
     requires made { IsMade (quartic_pairs size) (code_bounds (size + 1)) tree.now rest.now }
-    ensures { IfOk result (λ front. IsFrontOf (quartic_fronts size) (MakesQuartic size) front.items tree.now rest.now) }
+    ensures { IfOk result (λ prefix. IsPrefixOf (quartic_prefixes size) (MakesQuartic size) prefix.items tree.now rest.now) }
 {
     let read = shape_and_ranks(alloc, tree)?;
     let labels = arrange(alloc, rest)?;
     let labelled = tree_of_shape(alloc, &read.nodes, &labels)?;
-    let mut front = ungrow(alloc, &labelled)?;
-    front.extend_from_slice(&read.ranks)?;
-    Ok(front)
+    let mut prefix = ungrow(alloc, &labelled)?;
+    prefix.extend_from_slice(&read.ranks)?;
+    Ok(prefix)
 }

@@ -1,4 +1,4 @@
--- A piece written in several calls: a front of it was added so far.
+-- A piece written in several calls: a prefix of it was added so far.
 use Rattle.std.proofs.Common.{◌≡◌, ℕ, ◌+◌, List, ◌++◌, take, drop, Option, None, Some}
 use Rattle.std.proofs.lemmas.List.{append_assoc, drop-drop}
 use Rattle.std.specs.Io.KnownBytes.{Appends}

@@ -13,7 +13,7 @@ without k None = None
 without k (Some bytes) = Some (drop k bytes)
 
 -- The first k bytes of the buffer are the first k of those left; there are so many, and none are taken only at the end.
-pub record TakesFront (k : ℕ) (bytes buffer : List ℕ) : Type 0 where
+pub record TakesPrefix (k : ℕ) (bytes buffer : List ℕ) : Type 0 where
   pub within : k ≤ length bytes
-  pub front : take k buffer ≡ take k bytes
+  pub prefix : take k buffer ≡ take k bytes
   pub end : k ≡ 0 → bytes ≡ []

@@ -6,7 +6,7 @@
 //!
 //! ```text
 //! let bytes = read_all(alloc, source, MAX_BYTES)?;   // all that was left, or why not
-//! sink.write(bytes.as_slice())?;                     // Ok: the whole piece was added; else a front of it
+//! sink.write(bytes.as_slice())?;                     // Ok: the whole piece was added; else a prefix of it
 //! sink.flush()?;
 //! ```
 //!
@@ -16,7 +16,7 @@
 #![tactic(auto)]
 
 ghost use Rattle.std.specs.Prelude.{◌≡◌, ℕ, ◌≤◌, ◌<◌, List, Option, length, take, IfOk, IfSome, OnOk, OnErr};
-ghost use Rattle.pm_io.specs.Bytes.{added, without, TakesFront};
+ghost use Rattle.pm_io.specs.Bytes.{added, without, TakesPrefix};
 ghost use Rattle.pm_io.specs.Faults.{FaultsRose};
 
 mod calls;
@@ -70,13 +70,13 @@ pub trait Source {
     // How often the source failed.
     ghost faults: { Self → ℕ };
 
-    /// Reads some bytes to the front of `buf`, which isn't empty, and says how many; 0 is the end of the input.
+    /// Reads some bytes to the prefix of `buf`, which isn't empty, and says how many; 0 is the end of the input.
     /// A read that fails takes no byte.
     fn read(&mut self, buf: &mut [u8]) -> Result<usize, Failed>
         requires { 0 < length buf.old }
 
         ensures count { IfOk result (λ k. k ≤ length buf.new) }
-        ensures bytes { IfOk result (λ k. IfSome (left self.old) (λ l. TakesFront k l buf.new)) }
+        ensures bytes { IfOk result (λ k. IfSome (left self.old) (λ l. TakesPrefix k l buf.new)) }
         ensures taken { IfOk result (λ k. left self.new ≡ without k (left self.old)) }
         ensures stays { OnErr result (left self.new ≡ left self.old) }
 
@@ -96,10 +96,10 @@ pub trait Sink {
     // How often the sink failed.
     ghost faults: { Self → ℕ };
 
-    /// Adds the piece. A write that fails has added a front of it, which may be empty or whole.
+    /// Adds the piece. A write that fails has added a prefix of it, which may be empty or whole.
     fn write(&mut self, piece: &[u8]) -> Result<(), Failed>
         ensures whole { OnOk result (holds self.new ≡ added (holds self.old) piece.now) }
-        ensures front { OnErr result ((n : ℕ) × (holds self.new ≡ added (holds self.old) (take n piece.now))) }
+        ensures prefix { OnErr result ((n : ℕ) × (holds self.new ≡ added (holds self.old) (take n piece.now))) }
 
         ensures calm { OnOk result (faults self.new ≡ faults self.old) }
         ensures cause { OnErr result (FaultsRose (faults self.old) (faults self.new)) }

@@ -1,6 +1,6 @@
 //! A source and a sink over memory, which fail at chosen calls.
 ghost use Rattle.std.specs.Prelude.{◌≡◌, ◌↔◌, ℕ, ◌+◌, ◌-◌, ◌≤◌, ◌<◌, [], ◌++◌, length, take, drop, min, IsErr, IfOk, OnOk, OnErr, Some, vec_len, vec_capacity};
-ghost use Rattle.pm_io.specs.Bytes.{TakesFront};
+ghost use Rattle.pm_io.specs.Bytes.{TakesPrefix};
 ghost use Rattle.pm_io.specs.Faults.{FaultsRose, capped, one_more};
 ghost use Rattle.pm_io.specs.Memory.{FailsNext, FailsToWrite, kept};
 
@@ -45,10 +45,10 @@ impl MemSource {
     }
 }
 
-/// Copies the front of `bytes` to the front of `buf`, as much as there is of both and at most `most`.
-fn copy_front(bytes: &[u8], buf: &mut [u8], most: usize) -> usize
+/// Copies the prefix of `bytes` to the prefix of `buf`, as much as there is of both and at most `most`.
+fn copy_prefix(bytes: &[u8], buf: &mut [u8], most: usize) -> usize
     ensures count { result ≡ min most (min (length buf.old) (length bytes.now)) }
-    ensures front { take result buf.new ≡ take result bytes.now }
+    ensures prefix { take result buf.new ≡ take result bytes.now }
 {
     let count = most.min(buf.len()).min(bytes.len());
     buf[..count].copy_from_slice(&bytes[..count]);
@@ -69,7 +69,7 @@ impl Source for MemSource {
 
         // as every source
         ensures count { IfOk result (λ k. k ≤ length buf.new) }
-        ensures bytes { IfOk result (λ k. TakesFront k self.old.left buf.new) }
+        ensures bytes { IfOk result (λ k. TakesPrefix k self.old.left buf.new) }
         ensures taken { IfOk result (λ k. Some self.new.left ≡ Some (drop k self.old.left)) }
         ensures stays { OnErr result (Some self.new.left ≡ Some self.old.left) }
         ensures calm { OnOk result (capped self.new.faults ≡ capped self.old.faults) }
@@ -86,7 +86,7 @@ impl Source for MemSource {
             self.calls.fault();
             return Err(Failed);
         }
-        let given = copy_front(&self.bytes[self.at..], buf, self.piece as usize);
+        let given = copy_prefix(&self.bytes[self.at..], buf, self.piece as usize);
         self.at += given;
         Ok(given)
     }
@@ -157,7 +157,7 @@ impl Sink for MemSink {
     fn write(&mut self, piece: &[u8]) -> Result<(), Failed>
         // as every sink
         ensures whole { OnOk result (Some self.new.holds ≡ Some (self.old.holds ++ piece.now)) }
-        ensures front { OnErr result ((n : ℕ) × (Some self.new.holds ≡ Some (self.old.holds ++ take n piece.now))) }
+        ensures prefix { OnErr result ((n : ℕ) × (Some self.new.holds ≡ Some (self.old.holds ++ take n piece.now))) }
         ensures calm { OnOk result (capped self.new.faults ≡ capped self.old.faults) }
         ensures cause { OnErr result (FaultsRose (capped self.old.faults) (capped self.new.faults)) }
         ensures later { capped self.old.faults ≤ capped self.new.faults }

@@ -1,7 +1,7 @@
 //! The reading of a whole input.
 ghost use Rattle.std.specs.Prelude.{◌≡◌, ℕ, ◌+◌, ◌-◌, ◌≤◌, ◌<◌, [], length, take, drop, IfOk, IfSome, OnOk, OnErr, Some, vec_len, vec_capacity};
 ghost use Rattle.std.specs.Result.{IsErrOf};
-ghost use Rattle.pm_io.specs.Bytes.{without, TakesFront};
+ghost use Rattle.pm_io.specs.Bytes.{without, TakesPrefix};
 ghost use Rattle.pm_io.specs.Faults.{FaultsRose};
 
 use crate::{Failed, MAX_BYTES, ReadRefusal, Source};
@@ -10,12 +10,12 @@ use std::alloc::{AllocError, Global};
 /// The most bytes that are asked for at a time, 64 KiB.
 const CHUNK: usize = 65_536;
 
-/// Reads at most `most` bytes to the front of `buf`.
+/// Reads at most `most` bytes to the prefix of `buf`.
 fn read_some<S: Source>(src: &mut S, buf: &mut [u8], most: usize) -> Result<usize, Failed>
     requires some { 0 < length buf.old }
     requires room { 0 < most }
     ensures count { IfOk result (λ k. (k ≤ most) × (k ≤ length buf.new)) }
-    ensures bytes { IfOk result (λ k. IfSome (S.left src.old) (λ l. TakesFront k l buf.new)) }
+    ensures bytes { IfOk result (λ k. IfSome (S.left src.old) (λ l. TakesPrefix k l buf.new)) }
     ensures taken { IfOk result (λ k. S.left src.new ≡ without k (S.left src.old)) }
     ensures stays { OnErr result (S.left src.new ≡ S.left src.old) }
     ensures calm { OnOk result (S.faults src.new ≡ S.faults src.old) }

@@ -77,7 +77,7 @@ pub struct WriterSink<W> {
 /// Writes the whole piece in as many calls as it takes, and says whether it was taken.
 fn write_whole<W: Write>(writer: &mut W, piece: &[u8]) -> bool
     ensures whole { OnTrue result (Appends (W.contents writer.old) (W.contents writer.new) piece.now) }
-    ensures front { (n : ℕ) × Appends (W.contents writer.old) (W.contents writer.new) (take n piece.now) }
+    ensures prefix { (n : ℕ) × Appends (W.contents writer.old) (W.contents writer.new) (take n piece.now) }
 {
     let mut rest = piece;
     'rest: while !rest.is_empty() {
@@ -120,9 +120,9 @@ impl<W: Write> Sink for WriterSink<W> {
         ensures cause { OnErr result (FaultsRose (capped (write_errors self.old)) (capped (write_errors self.new))) }
         ensures later { capped (write_errors self.old) ≤ capped (write_errors self.new) }
 
-        // Where the writer knows its bytes, the piece is added, or a front of it.
+        // Where the writer knows its bytes, the piece is added, or a prefix of it.
         ensures wrote { OnOk result (Appends (W.contents (writer_of self.old)) (W.contents (writer_of self.new)) piece.now) }
-        ensures wrote_front { OnErr result ((n : ℕ) × Appends (W.contents (writer_of self.old)) (W.contents (writer_of self.new)) (take n piece.now)) }
+        ensures wrote_prefix { OnErr result ((n : ℕ) × Appends (W.contents (writer_of self.old)) (W.contents (writer_of self.new)) (take n piece.now)) }
     {
         if !write_whole(&mut self.writer, piece) {
             self.errors = self.errors.saturating_add(1);

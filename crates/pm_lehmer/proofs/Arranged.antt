@@ -118,162 +118,162 @@ pub unused_below-zero : (entries : List ℕ) → unused_below entries 0 ≡ 0
 unused_below-zero entries = omega (arith, unused_below-is entries 0)
 
 -- the lists together have as many entries below each number up to the size as the number says
-pub record Completes (size : ℕ) (front back : List ℕ) : Type 0 where
-  pub counts : (number : ℕ) → number ≤ size → count_below number front + count_below number back ≡ number
+pub record Completes (size : ℕ) (prefix back : List ℕ) : Type 0 where
+  pub counts : (number : ℕ) → number ≤ size → count_below number prefix + count_below number back ≡ number
 
 -- how many numbers below this one and the size are not in the list
 abbrev pub left_below : ℕ → List ℕ → ℕ → ℕ
 left_below size entries number = unused_below entries (min number size)
 
--- the front of the arrangement that is made, and the numbers that are left
-pub record IsArrangedUpTo (code words counts front : List ℕ) : Type 0 where
-  pub held : IsHeld words counts (left_below (length code) front)
-  pub different : HasDifferentEntries front
-  pub in_range : (place : ℕ) → place < length front → get_or front place 0 < length code
-  pub coded : (back : List ℕ) → Completes (length code) front back → code_of (front ++ back) ≡ take (length front) code ++ code_of back
+-- the prefix of the arrangement that is made, and the numbers that are left
+pub record IsArrangedUpTo (code words counts prefix : List ℕ) : Type 0 where
+  pub held : IsHeld words counts (left_below (length code) prefix)
+  pub different : HasDifferentEntries prefix
+  pub in_range : (place : ℕ) → place < length prefix → get_or prefix place 0 < length code
+  pub coded : (back : List ℕ) → Completes (length code) prefix back → code_of (prefix ++ back) ≡ take (length prefix) code ++ code_of back
 
-pub IsArrangedUpTo-none : (code words counts front : List ℕ) → front ≡ [] → IsHeld words counts (λ number. min number (length code)) → IsArrangedUpTo code words counts front
-IsArrangedUpTo-none code words counts front none held = rw none (record {
+pub IsArrangedUpTo-none : (code words counts prefix : List ℕ) → prefix ≡ [] → IsHeld words counts (λ number. min number (length code)) → IsArrangedUpTo code words counts prefix
+IsArrangedUpTo-none code words counts prefix none held = rw none (record {
   held = IsHeld-same words counts (λ number. min number (length code)) (left_below (length code) []) held (λ number. omega (arith, unused_below-is [] (min number (length code)), count_below-nil (min number (length code))));
   different = record { injective = λ first second in_first in_second same. absurd (omega arith) };
   in_range = λ place inside. absurd (omega arith);
   coded = λ back completes. refl;
 })
 
-count_below-push : (number entry : ℕ) (front : List ℕ) → count_below number (front ++ entry ∷ []) ≡ count_below number front + count_below number (entry ∷ [])
-count_below-push number entry front = count_below-append number front (entry ∷ [])
+count_below-push : (number entry : ℕ) (prefix : List ℕ) → count_below number (prefix ++ entry ∷ []) ≡ count_below number prefix + count_below number (entry ∷ [])
+count_below-push number entry prefix = count_below-append number prefix (entry ∷ [])
 
--- the number of the rank is not in the front, and has the rank
-record IsChosen (front : List ℕ) (rank number : ℕ) : Type 0 where
-  unused : count_below (suc number) front ≡ count_below number front
-  has_rank : count_below number front + rank ≡ number
+-- the number of the rank is not in the prefix, and has the rank
+record IsChosen (prefix : List ℕ) (rank number : ℕ) : Type 0 where
+  unused : count_below (suc number) prefix ≡ count_below number prefix
+  has_rank : count_below number prefix + rank ≡ number
 
-chosen : (front : List ℕ) (rank number : ℕ) → HasDifferentEntries front → unused_below front number ≤ rank → rank < unused_below front (number + 1) → IsChosen front rank number
-chosen front rank number different low high =
+chosen : (prefix : List ℕ) (rank number : ℕ) → HasDifferentEntries prefix → unused_below prefix number ≤ rank → rank < unused_below prefix (number + 1) → IsChosen prefix rank number
+chosen prefix rank number different low high =
     let e : number + 1 ≡ suc number = omega arith in
-    let up = count_below-mono number (suc number) front (omega arith) in
-    let within = count_below-le number front different in
-    let next = ap (unused_below front) e in
+    let up = count_below-mono number (suc number) prefix (omega arith) in
+    let within = count_below-le number prefix different in
+    let next = ap (unused_below prefix) e in
     record {
-      unused = omega (arith, unused_below-is front number, unused_below-is front (suc number));
-      has_rank = omega (arith, unused_below-is front number, unused_below-is front (suc number));
+      unused = omega (arith, unused_below-is prefix number, unused_below-is prefix (suc number));
+      has_rank = omega (arith, unused_below-is prefix number, unused_below-is prefix (suc number));
     }
 
-absent_in : (front : List ℕ) (rank number : ℕ) → IsChosen front rank number → (place : ℕ) → place < length front → get_or front place 0 ≢ number
-absent_in front rank number is_chosen place inside same = omega (arith, is_chosen.unused, count_below-stands number place front inside same)
+absent_in : (prefix : List ℕ) (rank number : ℕ) → IsChosen prefix rank number → (place : ℕ) → place < length prefix → get_or prefix place 0 ≢ number
+absent_in prefix rank number is_chosen place inside same = omega (arith, is_chosen.unused, count_below-stands number place prefix inside same)
 
-different-push : (front : List ℕ) (number : ℕ) → HasDifferentEntries front → ((place : ℕ) → place < length front → get_or front place 0 ≢ number) → HasDifferentEntries (front ++ number ∷ [])
-different-push front number different absent = record {
+different-push : (prefix : List ℕ) (number : ℕ) → HasDifferentEntries prefix → ((place : ℕ) → place < length prefix → get_or prefix place 0 ≢ number) → HasDifferentEntries (prefix ++ number ∷ [])
+different-push prefix number different absent = record {
   injective = λ first second in_first in_second same.
-      let long : length (front ++ number ∷ []) ≡ length front + 1 = length-append front (number ∷ []) in
-      elim (cases_lt first (length front)) [
-        | inl first_old ↦ elim (cases_lt second (length front)) [
-          | inl second_old ↦ different.injective first second first_old second_old (sym (get_or_append_left front (number ∷ []) 0 first first_old) ∙ same ∙ get_or_append_left front (number ∷ []) 0 second second_old)
-          | inr second_new ↦ absurd (absent first first_old (sym (get_or_append_left front (number ∷ []) 0 first first_old) ∙ same ∙ get_or_push front number 0 second (omega arith)))
+      let long : length (prefix ++ number ∷ []) ≡ length prefix + 1 = length-append prefix (number ∷ []) in
+      elim (cases_lt first (length prefix)) [
+        | inl first_old ↦ elim (cases_lt second (length prefix)) [
+          | inl second_old ↦ different.injective first second first_old second_old (sym (get_or_append_left prefix (number ∷ []) 0 first first_old) ∙ same ∙ get_or_append_left prefix (number ∷ []) 0 second second_old)
+          | inr second_new ↦ absurd (absent first first_old (sym (get_or_append_left prefix (number ∷ []) 0 first first_old) ∙ same ∙ get_or_push prefix number 0 second (omega arith)))
         ]
-        | inr first_new ↦ elim (cases_lt second (length front)) [
-          | inl second_old ↦ absurd (absent second second_old (sym (get_or_append_left front (number ∷ []) 0 second second_old) ∙ sym same ∙ get_or_push front number 0 first (omega arith)))
+        | inr first_new ↦ elim (cases_lt second (length prefix)) [
+          | inl second_old ↦ absurd (absent second second_old (sym (get_or_append_left prefix (number ∷ []) 0 second second_old) ∙ sym same ∙ get_or_push prefix number 0 first (omega arith)))
           | inr second_new ↦ omega arith
         ]
       ];
 }
 
-in_range-push : (size : ℕ) (front : List ℕ) (number : ℕ) → ((place : ℕ) → place < length front → get_or front place 0 < size) → number < size → (place : ℕ) → place < length (front ++ number ∷ []) → get_or (front ++ number ∷ []) place 0 < size
-in_range-push size front number under less place inside =
-    let long : length (front ++ number ∷ []) ≡ length front + 1 = length-append front (number ∷ []) in
-    elim (cases_lt place (length front)) [
-      | inl old ↦ omega (arith, get_or_append_left front (number ∷ []) 0 place old, under place old)
-      | inr new ↦ omega (arith, get_or_push front number 0 place (omega arith))
+in_range-push : (size : ℕ) (prefix : List ℕ) (number : ℕ) → ((place : ℕ) → place < length prefix → get_or prefix place 0 < size) → number < size → (place : ℕ) → place < length (prefix ++ number ∷ []) → get_or (prefix ++ number ∷ []) place 0 < size
+in_range-push size prefix number under less place inside =
+    let long : length (prefix ++ number ∷ []) ≡ length prefix + 1 = length-append prefix (number ∷ []) in
+    elim (cases_lt place (length prefix)) [
+      | inl old ↦ omega (arith, get_or_append_left prefix (number ∷ []) 0 place old, under place old)
+      | inr new ↦ omega (arith, get_or_push prefix number 0 place (omega arith))
     ]
 
-one_more_used : (front : List ℕ) (rank number : ℕ) → HasDifferentEntries front → IsChosen front rank number → HasDifferentEntries (front ++ number ∷ []) → IsMore number 1 (unused_below (front ++ number ∷ [])) (unused_below front)
-one_more_used front rank number different is_chosen pushed = record {
-  same = λ place low. omega (arith, unused_below-is front place, unused_below-is (front ++ number ∷ []) place, count_below-push place number front, count_below-other place number [] low, count_below-nil place);
-  raised = λ place high. omega (arith, unused_below-is front place, unused_below-is (front ++ number ∷ []) place, count_below-push place number front, count_below-smaller place number [] high, count_below-nil place, count_below-le place (front ++ number ∷ []) pushed);
+one_more_used : (prefix : List ℕ) (rank number : ℕ) → HasDifferentEntries prefix → IsChosen prefix rank number → HasDifferentEntries (prefix ++ number ∷ []) → IsMore number 1 (unused_below (prefix ++ number ∷ [])) (unused_below prefix)
+one_more_used prefix rank number different is_chosen pushed = record {
+  same = λ place low. omega (arith, unused_below-is prefix place, unused_below-is (prefix ++ number ∷ []) place, count_below-push place number prefix, count_below-other place number [] low, count_below-nil place);
+  raised = λ place high. omega (arith, unused_below-is prefix place, unused_below-is (prefix ++ number ∷ []) place, count_below-push place number prefix, count_below-smaller place number [] high, count_below-nil place, count_below-le place (prefix ++ number ∷ []) pushed);
 }
 
-coded-push : (code front : List ℕ) (rank number : ℕ) → length front < length code → number < length code → get_or code (length front) 0 ≡ rank → IsChosen front rank number
-    → ((back : List ℕ) → Completes (length code) front back → code_of (front ++ back) ≡ take (length front) code ++ code_of back)
-    → (back : List ℕ) → Completes (length code) (front ++ number ∷ []) back → code_of ((front ++ number ∷ []) ++ back) ≡ take (length (front ++ number ∷ [])) code ++ code_of back
-coded-push code front rank number inside less is is_chosen coded back completes =
-    let longer : Completes (length code) front (number ∷ back) = record {
+coded-push : (code prefix : List ℕ) (rank number : ℕ) → length prefix < length code → number < length code → get_or code (length prefix) 0 ≡ rank → IsChosen prefix rank number
+    → ((back : List ℕ) → Completes (length code) prefix back → code_of (prefix ++ back) ≡ take (length prefix) code ++ code_of back)
+    → (back : List ℕ) → Completes (length code) (prefix ++ number ∷ []) back → code_of ((prefix ++ number ∷ []) ++ back) ≡ take (length (prefix ++ number ∷ [])) code ++ code_of back
+coded-push code prefix rank number inside less is is_chosen coded back completes =
+    let longer : Completes (length code) prefix (number ∷ back) = record {
       counts = λ bound within. elim (cases_lt number bound) [
-        | inl high ↦ omega (arith, completes.counts bound within, count_below-push bound number front, count_below-smaller bound number [] high, count_below-smaller bound number back high, count_below-nil bound)
-        | inr low ↦ omega (arith, completes.counts bound within, count_below-push bound number front, count_below-other bound number [] low, count_below-other bound number back low, count_below-nil bound)
+        | inl high ↦ omega (arith, completes.counts bound within, count_below-push bound number prefix, count_below-smaller bound number [] high, count_below-smaller bound number back high, count_below-nil bound)
+        | inr low ↦ omega (arith, completes.counts bound within, count_below-push bound number prefix, count_below-other bound number [] low, count_below-other bound number back low, count_below-nil bound)
       ];
     } in
-    let head : count_below number back ≡ rank = omega (arith, is_chosen.has_rank, completes.counts number (omega arith), count_below-push number number front, count_below-other number number [] (omega arith), count_below-nil number) in
-    let long : length (front ++ number ∷ []) ≡ length front + 1 = length-append front (number ∷ []) in
-    let more = take_more code (length front) 0 inside in
-    ap code_of (append_assoc front (number ∷ []) back)
+    let head : count_below number back ≡ rank = omega (arith, is_chosen.has_rank, completes.counts number (omega arith), count_below-push number number prefix, count_below-other number number [] (omega arith), count_below-nil number) in
+    let long : length (prefix ++ number ∷ []) ≡ length prefix + 1 = length-append prefix (number ∷ []) in
+    let more = take_more code (length prefix) 0 inside in
+    ap code_of (append_assoc prefix (number ∷ []) back)
     ∙ coded (number ∷ back) longer
-    ∙ ap (λ n. take (length front) code ++ n ∷ code_of back) (head ∙ sym is)
-    ∙ sym (append_assoc (take (length front) code) (get_or code (length front) 0 ∷ []) (code_of back))
+    ∙ ap (λ n. take (length prefix) code ++ n ∷ code_of back) (head ∙ sym is)
+    ∙ sym (append_assoc (take (length prefix) code) (get_or code (length prefix) 0 ∷ []) (code_of back))
     ∙ ap (λ t. t ++ code_of back) (sym more)
     ∙ ap (λ n. take n code ++ code_of back) (sym long)
 
-one_more_left : (size number : ℕ) (front back : List ℕ) → number < size → IsMore number 1 (unused_below back) (unused_below front) → IsMore number 1 (left_below size back) (left_below size front)
-one_more_left size number front back inside one = record {
+one_more_left : (size number : ℕ) (prefix back : List ℕ) → number < size → IsMore number 1 (unused_below back) (unused_below prefix) → IsMore number 1 (left_below size back) (left_below size prefix)
+one_more_left size number prefix back inside one = record {
   same = λ place low. one.same (min place size) (omega arith);
   raised = λ place high. one.raised (min place size) (omega arith);
 }
 
 -- the number is in the range: from the size on nothing is left
-pub left_in_range : (size rank number : ℕ) (front : List ℕ) → left_below size front number ≤ rank → rank < left_below size front (number + 1) → number < size
-left_in_range size rank number front low high = elim (cases_lt number size) [
+pub left_in_range : (size rank number : ℕ) (prefix : List ℕ) → left_below size prefix number ≤ rank → rank < left_below size prefix (number + 1) → number < size
+left_in_range size rank number prefix low high = elim (cases_lt number size) [
   | inl inside ↦ inside
   | inr past ↦
       let here : min number size ≡ min (number + 1) size = omega arith in
-      absurd (omega (arith, ap (unused_below front) here))
+      absurd (omega (arith, ap (unused_below prefix) here))
 ]
 
 -- one number more in the arrangement, by what `remove` says
-IsArrangedUpTo-more : (code words counts after_words after_counts front : List ℕ) (number : ℕ) → IsArrangedUpTo code words counts front → length front < length code → number < length code
-    → (unused_below front number ≤ get_or code (length front) 0) × (get_or code (length front) 0 < unused_below front (number + 1))
-    → ((fewer : ℕ → ℕ) → IsMore number 1 fewer (left_below (length code) front) → IsHeld after_words after_counts fewer)
-    → IsArrangedUpTo code after_words after_counts (front ++ number ∷ [])
-IsArrangedUpTo-more code words counts after_words after_counts front number arranged inside less ranked held =
-    let is_chosen : IsChosen front (get_or code (length front) 0) number = chosen front (get_or code (length front) 0) number arranged.different ranked.0 ranked.1 in
-    let different : HasDifferentEntries (front ++ number ∷ []) = different-push front number arranged.different (absent_in front (get_or code (length front) 0) number is_chosen) in
-    let one = one_more_used front (get_or code (length front) 0) number arranged.different is_chosen different in
+IsArrangedUpTo-more : (code words counts after_words after_counts prefix : List ℕ) (number : ℕ) → IsArrangedUpTo code words counts prefix → length prefix < length code → number < length code
+    → (unused_below prefix number ≤ get_or code (length prefix) 0) × (get_or code (length prefix) 0 < unused_below prefix (number + 1))
+    → ((fewer : ℕ → ℕ) → IsMore number 1 fewer (left_below (length code) prefix) → IsHeld after_words after_counts fewer)
+    → IsArrangedUpTo code after_words after_counts (prefix ++ number ∷ [])
+IsArrangedUpTo-more code words counts after_words after_counts prefix number arranged inside less ranked held =
+    let is_chosen : IsChosen prefix (get_or code (length prefix) 0) number = chosen prefix (get_or code (length prefix) 0) number arranged.different ranked.0 ranked.1 in
+    let different : HasDifferentEntries (prefix ++ number ∷ []) = different-push prefix number arranged.different (absent_in prefix (get_or code (length prefix) 0) number is_chosen) in
+    let one = one_more_used prefix (get_or code (length prefix) 0) number arranged.different is_chosen different in
     record {
-      held = held (left_below (length code) (front ++ number ∷ [])) (one_more_left (length code) number front (front ++ number ∷ []) less one);
+      held = held (left_below (length code) (prefix ++ number ∷ [])) (one_more_left (length code) number prefix (prefix ++ number ∷ []) less one);
       different = different;
-      in_range = in_range-push (length code) front number arranged.in_range less;
-      coded = coded-push code front (get_or code (length front) 0) number inside less refl is_chosen arranged.coded;
+      in_range = in_range-push (length code) prefix number arranged.in_range less;
+      coded = coded-push code prefix (get_or code (length prefix) 0) number inside less refl is_chosen arranged.coded;
     }
 
-rank_below : (code front : List ℕ) → IsArrangementCode code → length front < length code → get_or code (length front) 0 < unused_below front (length code)
-rank_below code front is_code inside =
-    omega (arith, is_code.below (length front) inside, unused_below-is front (length code), count_below-le-length (length code) front)
+rank_below : (code prefix : List ℕ) → IsArrangementCode code → length prefix < length code → get_or code (length prefix) 0 < unused_below prefix (length code)
+rank_below code prefix is_code inside =
+    omega (arith, is_code.below (length prefix) inside, unused_below-is prefix (length code), count_below-le-length (length code) prefix)
 
-left_below-zero : (size : ℕ) (front : List ℕ) → left_below size front 0 ≡ 0
-left_below-zero size front =
+left_below-zero : (size : ℕ) (prefix : List ℕ) → left_below size prefix 0 ≡ 0
+left_below-zero size prefix =
     let zero_is : min 0 size ≡ 0 = omega arith in
-    ap (unused_below front) zero_is ∙ unused_below-zero front
+    ap (unused_below prefix) zero_is ∙ unused_below-zero prefix
 
 -- what `remove` asks of the rank
 pub has_rank : (code words counts arrangement : List ℕ) (place : ℕ) → IsArrangedUpTo code words counts (take place arrangement) → IsArrangementCode code → place < length code → length arrangement ≡ length code → length code ≤ 64 * length words
     → HasRank words counts (get_or code place 0)
 has_rank code words counts arrangement place arranged is_code inside same_length enough =
-    let front = take place arrangement in
+    let prefix = take place arrangement in
     let long : length (take place arrangement) ≡ place = length-take-le place arrangement (omega arith) in
     let whole : min (64 * length words) (length code) ≡ length code = omega arith in
     record {
-      below = left_below (length code) front;
+      below = left_below (length code) prefix;
       held = arranged.held;
-      none = left_below-zero (length code) front;
-      less = omega (arith, ap (λ n. get_or code n 0) long, ap (unused_below front) whole, rank_below code front is_code (omega (arith, long)));
+      none = left_below-zero (length code) prefix;
+      less = omega (arith, ap (λ n. get_or code n 0) long, ap (unused_below prefix) whole, rank_below code prefix is_code (omega (arith, long)));
     }
 
 -- at the end the arrangement is whole
-IsArrangedUpTo-whole : (code words counts front : List ℕ) → IsArrangedUpTo code words counts front → length front ≡ length code → IsArrangementOf code front
-IsArrangedUpTo-whole code words counts front arranged same_length =
-    let permutation : IsPermutationList front = record { stays = λ place inside. omega (arith, arranged.in_range place inside); injective = arranged.different.injective } in
-    let completes : Completes (length code) front [] = record { counts = λ number within. omega (arith, count_below-permutation number front permutation (omega arith), count_below-nil number) } in
+IsArrangedUpTo-whole : (code words counts prefix : List ℕ) → IsArrangedUpTo code words counts prefix → length prefix ≡ length code → IsArrangementOf code prefix
+IsArrangedUpTo-whole code words counts prefix arranged same_length =
+    let permutation : IsPermutationList prefix = record { stays = λ place inside. omega (arith, arranged.in_range place inside); injective = arranged.different.injective } in
+    let completes : Completes (length code) prefix [] = record { counts = λ number within. omega (arith, count_below-permutation number prefix permutation (omega arith), count_below-nil number) } in
     record {
       is_permutation = permutation;
-      has_code = ap code_of (sym (append-nil front)) ∙ arranged.coded [] completes ∙ append-nil _ ∙ take_all (length front) code (omega arith);
+      has_code = ap code_of (sym (append-nil prefix)) ∙ arranged.coded [] completes ∙ append-nil _ ∙ take_all (length prefix) code (omega arith);
     }
 
 -- the number that `remove` finds is in the range
@@ -281,9 +281,9 @@ pub number_in_range : (code words counts arrangement : List ℕ) (place number :
     → ((below : ℕ → ℕ) → IsHeld words counts below → below 0 ≡ 0 → (below number ≤ get_or code place 0) × (get_or code place 0 < below (number + 1)))
     → number < length code
 number_in_range code words counts arrangement place number arranged ranked =
-    let front = take place arrangement in
-    let found = ranked (left_below (length code) front) arranged.held (left_below-zero (length code) front) in
-    left_in_range (length code) (get_or code place 0) number front found.0 found.1
+    let prefix = take place arrangement in
+    let found = ranked (left_below (length code) prefix) arranged.held (left_below-zero (length code) prefix) in
+    left_in_range (length code) (get_or code place 0) number prefix found.0 found.1
 
 -- a step of the loop that writes the arrangement
 pub IsArrangedUpTo-step : (code words counts after_words after_counts arrangement : List ℕ) (place number : ℕ) → IsArrangedUpTo code words counts (take place arrangement)
@@ -292,17 +292,17 @@ pub IsArrangedUpTo-step : (code words counts after_words after_counts arrangemen
     → ((fewer more : ℕ → ℕ) → IsHeld words counts more → IsMore number 1 fewer more → IsHeld after_words after_counts fewer)
     → IsArrangedUpTo code after_words after_counts (take (place + 1) (set arrangement place number))
 IsArrangedUpTo-step code words counts after_words after_counts arrangement place number arranged inside same_length ranked held =
-    let front = take place arrangement in
+    let prefix = take place arrangement in
     let long : length (take place arrangement) ≡ place = length-take-le place arrangement (omega arith) in
-    let at : get_or code (length front) 0 ≡ get_or code place 0 = ap (λ n. get_or code n 0) long in
+    let at : get_or code (length prefix) 0 ≡ get_or code place 0 = ap (λ n. get_or code n 0) long in
     let less : number < length code = number_in_range code words counts arrangement place number arranged ranked in
-    let found = ranked (left_below (length code) front) arranged.held (left_below-zero (length code) front) in
+    let found = ranked (left_below (length code) prefix) arranged.held (left_below-zero (length code) prefix) in
     let here : min number (length code) ≡ number = omega arith in
     let next : min (number + 1) (length code) ≡ number + 1 = omega arith in
     let more : IsArrangedUpTo code after_words after_counts (take place arrangement ++ number ∷ []) =
-    IsArrangedUpTo-more code words counts after_words after_counts front number arranged (omega (arith, long)) less
-    (omega (arith, at, ap (unused_below front) here, found.0), omega (arith, at, ap (unused_below front) next, found.1))
-    (λ fewer one. held fewer (left_below (length code) front) arranged.held one) in
+    IsArrangedUpTo-more code words counts after_words after_counts prefix number arranged (omega (arith, long)) less
+    (omega (arith, at, ap (unused_below prefix) here, found.0), omega (arith, at, ap (unused_below prefix) next, found.1))
+    (λ fewer one. held fewer (left_below (length code) prefix) arranged.held one) in
     let written : take (place + 1) (set arrangement place number) ≡ take place arrangement ++ number ∷ [] = take_more_set arrangement place number (omega arith) in
     rw written more
 

@@ -33,9 +33,9 @@ pub count_below-le-length : (number : ℕ) (entries : List ℕ) → count_below 
 unfolding count_below
 count_below-le-length number entries = count_by-le-length _ entries
 
-pub count_below-append : (number : ℕ) (front back : List ℕ) → count_below number (front ++ back) ≡ count_below number front + count_below number back
+pub count_below-append : (number : ℕ) (prefix back : List ℕ) → count_below number (prefix ++ back) ≡ count_below number prefix + count_below number back
 unfolding count_below
-count_below-append number front back = sum_by-append _ front back
+count_below-append number prefix back = sum_by-append _ prefix back
 
 -- a greater number has as many or more entries below it
 pub count_below-mono : (small great : ℕ) (entries : List ℕ) → small ≤ great → count_below small entries ≤ count_below great entries

@@ -41,9 +41,9 @@ get_or-ranks_among : (entries later : List ℕ) (place : ℕ) → place < length
 unfolding ranks_among
 get_or-ranks_among entries later place inside = get_or-map _ later place 0 0 inside
 
-ranks_among-append : (entries front back : List ℕ) → ranks_among entries (front ++ back) ≡ ranks_among entries front ++ ranks_among entries back
+ranks_among-append : (entries prefix back : List ℕ) → ranks_among entries (prefix ++ back) ≡ ranks_among entries prefix ++ ranks_among entries back
 unfolding ranks_among
-ranks_among-append entries front back = map-append _ front back
+ranks_among-append entries prefix back = map-append _ prefix back
 
 -- an entry is smaller exactly where its rank is
 count_below-ranks : (entries : List ℕ) (number : ℕ) (later : List ℕ)
@@ -114,7 +114,7 @@ ranks_among-more entries ranks place rank written inside same_length is =
     let one : ranks_among entries (get_or entries place 0 ∷ []) ≡ rank ∷ [] =
     ranks_among-cons entries (get_or entries place 0) [] ∙ ap (λ r. r ∷ ranks_among entries []) (sym is) ∙ ap (λ rest. rank ∷ rest) (ranks_among-nil entries) in
     take_more_set ranks place rank (omega arith)
-    ∙ ap (λ front. front ++ rank ∷ []) written
+    ∙ ap (λ prefix. prefix ++ rank ∷ []) written
     ∙ ap (λ back. ranks_among entries (take place entries) ++ back) (sym one)
     ∙ sym (ranks_among-append entries (take place entries) (get_or entries place 0 ∷ []))
     ∙ sym (ap (ranks_among entries) (take_more entries place 0 inside))

@@ -32,7 +32,7 @@ ends_at_nothing = record { no_digit = λ h. omega (arith, h.within); no_space = 
 pub reading_begins : (tag bytes : List ℕ) → length tag ≤ length bytes → take (length tag) bytes ≡ tag → IsReadingNumbers tag bytes (length tag) []
 reading_begins tag bytes within tagged = record {
   within = within;
-  front = tagged ∙ sym (append-nil tag);
+  prefix = tagged ∙ sym (append-nil tag);
   fit = All-nil Fits64;
   onward = λ whole tail fit ends e. record {
     later = whole;
@@ -62,7 +62,7 @@ no_digit : (others tail : List ℕ) → EndsNumbers tail → HasDigit (spaced_nu
 no_digit [] tail ends h = ends.no_digit h
 no_digit (number ∷ others) tail ends h = omega (arith, h.digit)
 
--- the number after a space is the one at the front
+-- the number after a space is the one at the prefix
 pub record IsNextNumber (numbers whole rest tail : List ℕ) : Type 0 where
   pub number : ℕ
   pub others : List ℕ
@@ -97,13 +97,13 @@ reading_more tag bytes place numbers number count r h space leads =
     let here : drop place bytes ≡ 32 ∷ rest = drop_more bytes place 0 h ∙ ap (λ b. b ∷ rest) space in
     let word : take count rest ≡ decimal number = sym (number_is_decimal (take count rest) number leads.word) in
     let past : drop (place + (1 + count)) bytes ≡ drop count rest = sym (drop-drop (1 + count) place bytes) ∙ ap (drop (1 + count)) here ∙ ap (λ n. drop n (32 ∷ rest)) (one_more count) in
-    let front : take (place + (1 + count)) bytes ≡ (tag ++ spaced_numbers numbers) ++ (32 ∷ decimal number) =
-    take-add place (1 + count) bytes ∙ ap (λ l. l ++ take (1 + count) (drop place bytes)) r.front
+    let prefix : take (place + (1 + count)) bytes ≡ (tag ++ spaced_numbers numbers) ++ (32 ∷ decimal number) =
+    take-add place (1 + count) bytes ∙ ap (λ l. l ++ take (1 + count) (drop place bytes)) r.prefix
     ∙ ap (λ l. (tag ++ spaced_numbers numbers) ++ take (1 + count) l) here ∙ ap (λ n. (tag ++ spaced_numbers numbers) ++ take n (32 ∷ rest)) (one_more count)
     ∙ ap (λ l. (tag ++ spaced_numbers numbers) ++ 32 ∷ l) word in
     record {
       within = omega (arith, leads.within, length-drop (place + 1) bytes, h);
-      front = front ∙ append_assoc tag (spaced_numbers numbers) (32 ∷ decimal number)
+      prefix = prefix ∙ append_assoc tag (spaced_numbers numbers) (32 ∷ decimal number)
           ∙ ap (λ l. tag ++ (spaced_numbers numbers ++ 32 ∷ l)) (sym (append-nil (decimal number))) ∙ ap (λ l. tag ++ l) (sym (spaced_numbers-append numbers (number ∷ [])));
       fit = All-push Fits64 numbers number r.fit leads.word.fits;
       onward = λ whole tail fit ends e.
@@ -121,10 +121,10 @@ reading_more tag bytes place numbers number count r h space leads =
 
 -- all bytes are read
 pub reading_ends : (tag bytes : List ℕ) (place : ℕ) (numbers : List ℕ) → IsReadingNumbers tag bytes place numbers → length bytes ≤ place → bytes ≡ tag ++ spaced_numbers numbers
-reading_ends tag bytes place numbers r all = sym (take_all place bytes all) ∙ r.front
+reading_ends tag bytes place numbers r all = sym (take_all place bytes all) ∙ r.prefix
 
-pub at_front : (bytes : List ℕ) (place x : ℕ) (xs : List ℕ) → drop place bytes ≡ x ∷ xs → get_or bytes place 0 ≡ x
-at_front bytes place x xs e = ap (λ n. get_or bytes n 0) (sym (add-zero place)) ∙ sym (get_or-drop place bytes 0 0) ∙ ap (λ l. get_or l 0 0) e
+pub at_prefix : (bytes : List ℕ) (place x : ℕ) (xs : List ℕ) → drop place bytes ≡ x ∷ xs → get_or bytes place 0 ≡ x
+at_prefix bytes place x xs e = ap (λ n. get_or bytes n 0) (sym (add-zero place)) ∙ sym (get_or-drop place bytes 0 0) ∙ ap (λ l. get_or l 0 0) e
 
 -- where no space stands, no number is to come
 pub record IsLast (numbers whole rest tail : List ℕ) : Type 0 where
@@ -136,7 +136,7 @@ last_number bytes place numbers whole tail on other = last on.later on.whole_is 
   last : (later : List ℕ) → whole ≡ numbers ++ later → drop place bytes ≡ spaced_numbers later ++ tail → IsLast numbers whole (drop place bytes) tail
   last [] whole_is rest_is = record { whole_is = whole_is ∙ append-nil numbers; rest_is = rest_is }
   last (number ∷ later) whole_is rest_is =
-      let first : get_or bytes place 0 ≡ 32 = at_front bytes place 32 ((decimal number ++ spaced_numbers later) ++ tail) rest_is in
+      let first : get_or bytes place 0 ≡ 32 = at_prefix bytes place 32 ((decimal number ++ spaced_numbers later) ++ tail) rest_is in
       absurd (other (omega (arith, ap length rest_is, length-drop place bytes)) first)
 
 -- bytes that are no numbers
@@ -210,14 +210,14 @@ put_more numbers bytes new left start digits p at written size =
     }
 
 -- some numbers more of a line
-pub line_goes_on : (front numbers text new : List ℕ) (start count : ℕ) → start + count ≤ length numbers → text ≡ front ++ spaced_numbers (take start numbers)
-    → new ≡ text ++ spaced_numbers (take (start + count - start) (drop start numbers)) → new ≡ front ++ spaced_numbers (take (start + count) numbers)
-line_goes_on front numbers text new start count h is added =
+pub line_goes_on : (prefix numbers text new : List ℕ) (start count : ℕ) → start + count ≤ length numbers → text ≡ prefix ++ spaced_numbers (take start numbers)
+    → new ≡ text ++ spaced_numbers (take (start + count - start) (drop start numbers)) → new ≡ prefix ++ spaced_numbers (take (start + count) numbers)
+line_goes_on prefix numbers text new start count h is added =
     let more = take count (drop start numbers) in
     let long : start + count - start ≡ count = omega arith in
     added ∙ ap (λ n. text ++ spaced_numbers (take n (drop start numbers))) long ∙ ap (λ l. l ++ spaced_numbers more) is
-    ∙ append_assoc front (spaced_numbers (take start numbers)) (spaced_numbers more)
-    ∙ ap (λ l. front ++ l) (sym (spaced_numbers-append (take start numbers) more) ∙ ap spaced_numbers (sym (take-add start count numbers)))
+    ∙ append_assoc prefix (spaced_numbers (take start numbers)) (spaced_numbers more)
+    ∙ ap (λ l. prefix ++ l) (sym (spaced_numbers-append (take start numbers) more) ∙ ap spaced_numbers (sym (take-add start count numbers)))
 
 -- the tag and the spellings, joined by spaces
 pub join-tagged : (tag numbers : List ℕ) → join_with_byte 32 (tag ∷ map decimal numbers) ≡ tag ++ spaced_numbers numbers

@@ -57,10 +57,10 @@ pub meets_below : (s : Structure) (vertices : List (List ℕ)) → IsStructure s
 meets_below s vertices structure some (at_root vertex is) =
     subst (AreBelow s.darts) (sym (append-nil vertex)) (vertex_below s s.root vertex structure (structure.root_stays some) is)
 meets_below s vertices structure some (onward before d vertex met unmet is) =
-    let front : AreBelow s.darts (darts_of before) = meets_below s before structure some met in
-    let dart : d < s.darts = stands_below s.darts (darts_of before) d front (stands_there (darts_of before) unmet.place d unmet.at) in
+    let prefix : AreBelow s.darts (darts_of before) = meets_below s before structure some met in
+    let dart : d < s.darts = stands_below s.darts (darts_of before) d prefix (stands_there (darts_of before) unmet.place d unmet.at) in
     let back : AreBelow s.darts vertex = vertex_below s (s.twin d) vertex structure (structure.twin_stays d dart) is in
-    subst (AreBelow s.darts) (sym (darts_of-onward before vertex)) (AreBelow-append s.darts (darts_of before) vertex front back)
+    subst (AreBelow s.darts) (sym (darts_of-onward before vertex)) (AreBelow-append s.darts (darts_of before) vertex prefix back)
 
 map_at : (f : ℕ → ℕ) (darts : List ℕ) (k : ℕ) → k < length darts → slice_index (map f darts) k ≡ f (slice_index darts k)
 map_at f darts k within = get_or-map f darts k 0 0 within

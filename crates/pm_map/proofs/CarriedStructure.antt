@@ -102,7 +102,7 @@ dual_carries f a b structure carries = record {
   root = carries.root;
 }
 
--- as many vertices, so as many faces, and Euler's number is carried
+-- as many vertices, so as many faces, and the Euler characteristic is carried
 pub vertices_carried : (f : ℕ → ℕ) (a b : Structure) → IsStructure a → IsStructure b → CarriesTo f a b → vertices a ≡ vertices b
 vertices_carried f a b one other carries =
     let there : IsPermutationBelow a.darts b.next = subst (λ n. IsPermutationBelow n b.next) (sym carries.darts) other.rotation in

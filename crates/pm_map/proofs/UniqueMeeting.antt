@@ -68,24 +68,24 @@ meets_is_unique s v w (at_root a ia) (onward ws e b mw ue ib) same =
 meets_is_unique s v w (onward vs d a mv ud ia) (at_root b ib) same =
     absurd (omega (arith, meets_some s vs mv, length_onward vs a))
 meets_is_unique s v w (onward vs d a mv ud ia) (onward ws e b mw ue ib) same =
-    let front : vs ≡ ws = meets_is_unique s vs ws mv mw (omega (arith, length_onward vs a, length_onward ws b)) in
-    let dart : d ≡ e = next_unmet_is_unique s (darts_of ws) d e (subst (λ x. IsNextUnmet s (darts_of x) d) front ud) ue in
+    let prefix : vs ≡ ws = meets_is_unique s vs ws mv mw (omega (arith, length_onward vs a, length_onward ws b)) in
+    let dart : d ≡ e = next_unmet_is_unique s (darts_of ws) d e (subst (λ x. IsNextUnmet s (darts_of x) d) prefix ud) ue in
     let last : a ≡ b = vertex_is_unique s (s.twin e) a b (subst (λ x. IsVertexFrom s (s.twin x) a) dart ia) ib in
     cc
 
--- of what is met in fewer and in more steps, the shorter is a front of the longer
-pub meets_is_front : (s : Structure) (v w : List (List ℕ)) → Meets s v → Meets s w → length v ≤ length w → v ≡ take (length v) w
-meets_is_front s v w mv (at_root b ib) le =
+-- of what is met in fewer and in more steps, the shorter is a prefix of the longer
+pub meets_is_prefix : (s : Structure) (v w : List (List ℕ)) → Meets s v → Meets s w → length v ≤ length w → v ≡ take (length v) w
+meets_is_prefix s v w mv (at_root b ib) le =
     let some = meets_some s v mv in
     let whole : take (length v) (b ∷ []) ≡ b ∷ [] = take_all (length v) (b ∷ []) (omega arith) in
     meets_is_unique s v (b ∷ []) mv (at_root b ib) (omega arith) ∙ sym whole
-meets_is_front s v w mv (onward ws e b mw ue ib) le =
+meets_is_prefix s v w mv (onward ws e b mw ue ib) le =
     elim (cases_lt (length ws) (length v)) [
       | inl more ↦
           let total : length (ws ++ b ∷ []) ≡ suc (length ws) = length_onward ws b in
           let whole : take (length v) (ws ++ b ∷ []) ≡ ws ++ b ∷ [] = take_all (length v) (ws ++ b ∷ []) (omega arith) in
           meets_is_unique s v (ws ++ b ∷ []) mv (onward ws e b mw ue ib) (omega arith) ∙ sym whole
-      | inr less ↦ meets_is_front s v ws mv mw less ∙ sym (take-append-le (length v) ws (b ∷ []) less)
+      | inr less ↦ meets_is_prefix s v ws mv mw less ∙ sym (take-append-le (length v) ws (b ∷ []) less)
     ]
 
 -- with each dart that stands in the list its twin stands in it

@@ -46,7 +46,7 @@ HoldsNext-append : (s : Structure) (xs ys : List ℕ) → HoldsNext s xs → Hol
 HoldsNext-append s xs ys hx hy = record {
   next_stands = λ d stands.
       elim (Contains-append_cases xs ys d stands) [
-        | inl front ↦ Contains-append_left xs ys (s.next d) (hx.next_stands d front)
+        | inl prefix ↦ Contains-append_left xs ys (s.next d) (hx.next_stands d prefix)
         | inr back ↦ Contains-append_right xs ys (s.next d) (hy.next_stands d back)
       ];
 }
@@ -123,22 +123,22 @@ StandOnce-append : (xs ys : List ℕ) → StandOnce xs → StandOnce ys → ((d 
 StandOnce-append xs ys ox oy apart = record {
   once = λ i j hi hj same.
       elim (cases_lt i (length xs)) [
-        | inl front_i ↦
-            let at_i : slice_index (xs ++ ys) i ≡ slice_index xs i = get_or_append_left xs ys 0 i front_i in
+        | inl prefix_i ↦
+            let at_i : slice_index (xs ++ ys) i ≡ slice_index xs i = get_or_append_left xs ys 0 i prefix_i in
             elim (cases_lt j (length xs)) [
-              | inl front_j ↦ ox.once i j front_i front_j (sym at_i ∙ same ∙ get_or_append_left xs ys 0 j front_j)
+              | inl prefix_j ↦ ox.once i j prefix_i prefix_j (sym at_i ∙ same ∙ get_or_append_left xs ys 0 j prefix_j)
               | inr back_j ↦
                   let within : j - length xs < length ys = omega (arith, length-append xs ys) in
-                  absurd (apart (slice_index xs i) (contains_at _ _ i front_i refl)
+                  absurd (apart (slice_index xs i) (contains_at _ _ i prefix_i refl)
                   (contains_at _ _ (j - length xs) within (sym (get_or-append_right xs ys (length xs) j 0 refl back_j) ∙ sym same ∙ at_i)))
             ]
         | inr back_i ↦
             let at_i : slice_index (xs ++ ys) i ≡ slice_index ys (i - length xs) = get_or-append_right xs ys (length xs) i 0 refl back_i in
             let within_i : i - length xs < length ys = omega (arith, length-append xs ys) in
             elim (cases_lt j (length xs)) [
-              | inl front_j ↦
-                  absurd (apart (slice_index xs j) (contains_at _ _ j front_j refl)
-                  (contains_at _ _ (i - length xs) within_i (sym at_i ∙ same ∙ get_or_append_left xs ys 0 j front_j)))
+              | inl prefix_j ↦
+                  absurd (apart (slice_index xs j) (contains_at _ _ j prefix_j refl)
+                  (contains_at _ _ (i - length xs) within_i (sym at_i ∙ same ∙ get_or_append_left xs ys 0 j prefix_j)))
               | inr back_j ↦
                   let within_j : j - length xs < length ys = omega (arith, length-append xs ys) in
                   let equal : i - length xs ≡ j - length xs =
@@ -157,7 +157,7 @@ meets_once s vertices structure some (onward before d vertex met unmet is) =
     subst StandOnce (sym (darts_of-onward before vertex))
     (StandOnce-append (darts_of before) vertex (meets_once s before structure some met)
     (vertex_stands_once s (s.twin d) vertex structure (structure.twin_stays d dart) is)
-    (λ e front back. unmet.unmet (vertex_all_or_none s (s.twin d) vertex (darts_of before) e is (meets_holds_next s before met) back front)))
+    (λ e prefix back. unmet.unmet (vertex_all_or_none s (s.twin d) vertex (darts_of before) e is (meets_holds_next s before met) back prefix)))
 
 -- the meeting list has each dart once
 pub meeting_list_stands_once : (s : Structure) (vertices : List (List ℕ)) → IsStructure s → IsMeetingList s vertices → StandOnce (darts_of vertices)

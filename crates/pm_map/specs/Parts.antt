@@ -8,7 +8,7 @@ use Rattle.pm_map.specs.declared.refusal.MapRefusal.TheVariants.{Memory, TooMany
 use Rattle.pm_map.specs.Missing.{IsLeastMissing}
 use Rattle.pm_map.specs.Reached.{IsLeastUnreached}
 use Rattle.pm_map.specs.Structure.{IsConnected}
-use Rattle.pm_map.specs.Plane.{HasEulerTwo, euler_number}
+use Rattle.pm_map.specs.Plane.{HasEulerTwo, euler_characteristic}
 use Rattle.pm_map.specs.Rotation.{structure_of, IsRootedMap}
 
 -- more edges than a map may have, and how many
@@ -27,12 +27,12 @@ pub record IsNotConnected (sigma : List ℕ) (root dart : ℕ) : Type 0 where
   pub permutes : IsPermutationList sigma
   pub unreached : IsLeastUnreached (structure_of (record { sigma = sigma; root = root })) dart
 
--- Euler's number, where the rotation is a permutation and the map connected, and that number isn't 2
+-- The Euler characteristic, where the rotation is a permutation and the map connected, and that number isn't 2
 pub record HasGenus (sigma : List ℕ) (root : ℕ) (euler : ℤ) : Type 0 where
   pub few : length sigma ≤ 2 * MAX_EDGES
   pub permutes : IsPermutationList sigma
   pub connected : IsConnected (structure_of (record { sigma = sigma; root = root }))
-  pub number : euler ≡ euler_number (structure_of (record { sigma = sigma; root = root }))
+  pub number : euler ≡ euler_characteristic (structure_of (record { sigma = sigma; root = root }))
   pub other : HasEulerTwo (structure_of (record { sigma = sigma; root = root })) → ⊥
 
 -- The answer to a rotation and a root: the map, or the first rule that they break. Want of memory may come at any.

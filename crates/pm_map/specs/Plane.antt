@@ -1,4 +1,4 @@
--- Plane maps: connected structures with Euler's number 2.
+-- Plane maps: connected structures with Euler characteristic 2.
 use Rattle.std.specs.Prelude.{◌≡◌, ℕ, ◌+◌, ◌/◌, ◌==◌, if◌then◌else◌, ℤ, pos, ◌-ℤ◌}
 use Rattle.pm_perm.specs.Cycles.{cycles}
 use Rattle.pm_map.specs.Structure.{Structure, IsStructure, IsConnected, face_next}
@@ -19,9 +19,9 @@ edges s = s.darts / 2
 abbrev pub HasEulerTwo : Structure → Type 0
 HasEulerTwo s = vertices s + faces s ≡ edges s + 2
 
--- Euler's number: vertices less edges plus faces
-abbrev pub euler_number : Structure → ℤ
-euler_number s = pos (vertices s + faces s) -ℤ pos (edges s)
+-- The Euler characteristic: vertices less edges plus faces
+abbrev pub euler_characteristic : Structure → ℤ
+euler_characteristic s = pos (vertices s + faces s) -ℤ pos (edges s)
 
 -- a plane structure
 pub record IsPlane (s : Structure) : Type 0 where

@@ -6,7 +6,7 @@ ghost use Rattle.pm_map.specs.Plane.{vertices};
 ghost use Rattle.pm_map.specs.Rotation.{structure_of};
 
 use crate::counting::count_vertices;
-use crate::euler::euler_number;
+use crate::euler::euler_characteristic;
 use crate::marks::least_missing;
 use crate::reaching::{Reach, reach_of_root};
 use crate::refusal::MapRefusal;
@@ -63,7 +63,7 @@ impl RootedMap {
             Reach::Everywhere { faces } => faces,
             Reach::ShortOf { dart } => return Err(MapRefusal::NotConnected { dart }),
         };
-        let euler = euler_number(&sigma, vertex_count, face_count);
+        let euler = euler_characteristic(&sigma, vertex_count, face_count);
         if euler != 2 {
             return Err(MapRefusal::Genus { euler });
         }

@@ -12,33 +12,33 @@ use Rattle.pm_mapfile.specs.MapFile.{MapLines, IsVertexLine, AreMapLines, lines_
 use Rattle.pm_mapfile.proofs.NumberLines.{numbers_are_unique}
 use Rattle.pm_mapfile.proofs.TailLemmas.{tag_v_no_space, tag_v_some, tag_map_no_space, tag_map_some, two_fit, cut_alike, v_not_end, end_no_newline, vertex_no_newline, first_text, first_line_spelled, first_no_newline, whole_text}
 
--- a front of a file that is valid alone, and with anything after it valid in a wider form
-pub record HasFront (narrow wide : List ℕ → Type 0) (file : List ℕ) : Type 0 where
-  pub front : List ℕ
+-- a prefix of a file that is valid alone, and with anything after it valid in a wider form
+pub record HasPrefix (narrow wide : List ℕ → Type 0) (file : List ℕ) : Type 0 where
+  pub prefix : List ℕ
   pub count : ℕ
-  pub whole : IsWholeLines count front
+  pub whole : IsWholeLines count prefix
   pub rest : List ℕ
-  pub spelled : file ≡ front ++ rest
-  pub alone : narrow front
-  pub any : (other : List ℕ) → wide (front ++ other)
+  pub spelled : file ≡ prefix ++ rest
+  pub alone : narrow prefix
+  pub any : (other : List ℕ) → wide (prefix ++ other)
 
 -- what breaks the wider form breaks the narrower one at the same line
-pub broken_in_narrower : (narrow wide : List ℕ → Type 0) (bytes : List ℕ) (line : ℕ) → ((file : List ℕ) → narrow file → wide file) → ((file : List ℕ) → wide file → HasFront narrow wide file)
+pub broken_in_narrower : (narrow wide : List ℕ → Type 0) (bytes : List ℕ) (line : ℕ) → ((file : List ℕ) → narrow file → wide file) → ((file : List ℕ) → wide file → HasPrefix narrow wide file)
     → IsBrokenLine wide bytes line → IsBrokenLine narrow bytes line
-broken_in_narrower narrow wide bytes line within fronts b = record {
+broken_in_narrower narrow wide bytes line within prefixes b = record {
   broken = λ file valid. b.broken file (within file valid);
   least = λ fewer less.
       let g = b.least fewer less in
-      let f = fronts g.file g.is_valid in
-      let same : first_lines fewer bytes ≡ first_lines fewer (f.front ++ f.rest) = sym g.same ∙ ap (first_lines fewer) f.spelled in
+      let f = prefixes g.file g.is_valid in
+      let same : first_lines fewer bytes ≡ first_lines fewer (f.prefix ++ f.rest) = sym g.same ∙ ap (first_lines fewer) f.spelled in
       elim (cases_lt f.count fewer) [
         | inl past ↦
-            let goes_on = begins_with_whole_lines f.count f.front f.rest bytes f.whole (first_lines-fewer f.count fewer bytes (f.front ++ f.rest) (omega arith) same) in
-            absurd (b.broken (f.front ++ goes_on.tail) (f.any goes_on.tail) (ap (first_lines line) (sym goes_on.whole)))
+            let goes_on = begins_with_whole_lines f.count f.prefix f.rest bytes f.whole (first_lines-fewer f.count fewer bytes (f.prefix ++ f.rest) (omega arith) same) in
+            absurd (b.broken (f.prefix ++ goes_on.tail) (f.any goes_on.tail) (ap (first_lines line) (sym goes_on.whole)))
         | inr short ↦ record {
-          file = f.front;
+          file = f.prefix;
           is_valid = f.alone;
-          same = ap (first_lines fewer) (sym (append-nil f.front)) ∙ first_lines-whole f.count f.front [] f.rest fewer f.whole short ∙ sym same;
+          same = ap (first_lines fewer) (sym (append-nil f.prefix)) ∙ first_lines-whole f.count f.prefix [] f.rest fewer f.whole short ∙ sym same;
         }
       ];
 }
@@ -84,34 +84,34 @@ broken_in_longer narrow wide bytes line within longer b = record {
       ];
 }
 
--- files that begin with a front are told by what follows it: a broken line of that is one of the file
-pub broken_past_front : (valid past : List ℕ → Type 0) (count line : ℕ) (front rest : List ℕ) → IsWholeLines count front → ((other : List ℕ) → valid (front ++ other) → past other)
-    → ((other : List ℕ) → past other → valid (front ++ other)) → 0 < line → IsBrokenLine past rest line → IsBrokenLine valid (front ++ rest) (count + line)
-broken_past_front valid past count line front rest whole to from positive b = record {
+-- files that begin with a prefix are told by what follows it: a broken line of that is one of the file
+pub broken_past_prefix : (valid past : List ℕ → Type 0) (count line : ℕ) (prefix rest : List ℕ) → IsWholeLines count prefix → ((other : List ℕ) → valid (prefix ++ other) → past other)
+    → ((other : List ℕ) → past other → valid (prefix ++ other)) → 0 < line → IsBrokenLine past rest line → IsBrokenLine valid (prefix ++ rest) (count + line)
+broken_past_prefix valid past count line prefix rest whole to from positive b = record {
   broken = λ file is_valid same.
-      let goes_on = begins_with_whole_lines count front rest file whole (first_lines-fewer count (count + line) file (front ++ rest) (omega arith) same) in
-      let there = first_lines-past count line front goes_on.tail whole in
-      let here = first_lines-past count line front rest whole in
+      let goes_on = begins_with_whole_lines count prefix rest file whole (first_lines-fewer count (count + line) file (prefix ++ rest) (omega arith) same) in
+      let there = first_lines-past count line prefix goes_on.tail whole in
+      let here = first_lines-past count line prefix rest whole in
       let pieces : whole.pieces ++ first_lines line goes_on.tail ≡ whole.pieces ++ first_lines line rest = sym there ∙ ap (first_lines (count + line)) (sym goes_on.whole) ∙ same ∙ here in
       b.broken goes_on.tail (to goes_on.tail (subst valid goes_on.whole is_valid)) (append_cancel_left whole.pieces (first_lines line goes_on.tail) (first_lines line rest) pieces);
   least = λ fewer less.
       elim (cases_lt count fewer) [
-        | inl past_front ↦
+        | inl past_prefix ↦
             let more = fewer - count in
             let sum : count + more ≡ fewer = omega arith in
             let g = b.least more (omega arith) in
             record {
-              file = front ++ g.file;
+              file = prefix ++ g.file;
               is_valid = from g.file g.is_valid;
-              same = subst (λ n. first_lines n (front ++ g.file) ≡ first_lines n (front ++ rest)) sum
-                  (first_lines-past count more front g.file whole ∙ ap (λ l. whole.pieces ++ l) g.same ∙ sym (first_lines-past count more front rest whole));
+              same = subst (λ n. first_lines n (prefix ++ g.file) ≡ first_lines n (prefix ++ rest)) sum
+                  (first_lines-past count more prefix g.file whole ∙ ap (λ l. whole.pieces ++ l) g.same ∙ sym (first_lines-past count more prefix rest whole));
             }
         | inr short ↦
             let g = b.least 0 positive in
             record {
-              file = front ++ g.file;
+              file = prefix ++ g.file;
               is_valid = from g.file g.is_valid;
-              same = first_lines-whole count front g.file rest fewer whole short;
+              same = first_lines-whole count prefix g.file rest fewer whole short;
             }
       ];
 }
@@ -121,7 +121,7 @@ whole_append : (n m : ℕ) (a b : List ℕ) → IsWholeLines n a → IsWholeLine
 whole_append n m a b one other = record {
   pieces = one.pieces ++ other.pieces;
   length_pieces = length-append one.pieces other.pieces ∙ (let sum : length one.pieces + length other.pieces ≡ n + m = omega (arith, one.length_pieces, other.length_pieces) in sum);
-  in_front = λ rest. ap lines (append_assoc a b rest) ∙ one.in_front (b ++ rest) ∙ ap (λ l. one.pieces ++ l) (other.in_front rest) ∙ sym (append_assoc one.pieces other.pieces (lines rest));
+  in_prefix = λ rest. ap lines (append_assoc a b rest) ∙ one.in_prefix (b ++ rest) ∙ ap (λ l. one.pieces ++ l) (other.in_prefix rest) ∙ sym (append_assoc one.pieces other.pieces (lines rest));
 }
 
 whole_vertices : (darts : ℕ) (vertices : List (List ℕ)) → All (IsVertexLine darts) vertices → IsWholeLines (length vertices) (vertex_lines vertices)
@@ -138,8 +138,8 @@ whole_map_text m are =
     let first = subst (IsWholeLines 1) (sym (first_line_spelled m.edges m.root)) (one_whole_line (first_text m.edges m.root) (first_no_newline m.edges m.root are.first)) in
     let vertices = whole_vertices (2 * m.edges) m.vertices are.each in
     let last = one_whole_line (codes "end") end_no_newline in
-    let front = whole_append 1 (length m.vertices) (map_line m.edges m.root) (vertex_lines m.vertices) first vertices in
-    let all = whole_append (1 + length m.vertices) 1 (map_line m.edges m.root ++ vertex_lines m.vertices) (codes "end\n") front last in
+    let prefix = whole_append 1 (length m.vertices) (map_line m.edges m.root) (vertex_lines m.vertices) first vertices in
+    let all = whole_append (1 + length m.vertices) 1 (map_line m.edges m.root ++ vertex_lines m.vertices) (codes "end\n") prefix last in
     subst (λ n. IsWholeLines n (lines_text m)) (let count : 1 + length m.vertices + 1 ≡ length m.vertices + 2 = omega arith in count) all
 
 -- lines of vertices that are the same bytes are the same, and so is what stands after the line `end`

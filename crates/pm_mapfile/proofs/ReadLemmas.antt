@@ -170,7 +170,7 @@ read_ends after edges root bytes text darts sizes old new r next is count =
       darts_are = r.darts_are;
       sizes_are = r.sizes_are;
       within = omega (arith, next.place, ap length all, length-append new.given new.rest);
-      front = ap (λ n. take n bytes) next.place ∙ ap (take (length new.given)) all ∙ take-append_seam new.given new.rest ∙ now;
+      prefix = ap (λ n. take n bytes) next.place ∙ ap (take (length new.given)) all ∙ take-append_seam new.given new.rest ∙ now;
     }
 
 -- there are not more lines than bytes
@@ -186,7 +186,7 @@ lines_fit edges root bytes darts sizes reading r =
 abbrev pub skipped : Reading → ℕ → Reading
 skipped old count = record { given = old.given ++ take count old.rest; rest = drop count old.rest }
 
--- the line of a vertex at the front of what is left is the next line
+-- the line of a vertex at the prefix of what is left is the next line
 line_of_vertex : (count : ℕ) (vertex : List ℕ) (old : Reading) → All Fits64 vertex → take count old.rest ≡ vertex_line vertex
     → IsNextLine old (skipped old count) (codes "v" ++ spaced_numbers vertex) true (length (old.given ++ take count old.rest))
 line_of_vertex count vertex old fit line = record {

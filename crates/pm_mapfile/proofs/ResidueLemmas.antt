@@ -18,7 +18,7 @@ use Rattle.pm_mapfile.specs.steps.Lines.{IsNumbersLine, IsReadMap}
 use Rattle.pm_lists.proofs.NumberLemmas.{Fits64}
 use Rattle.pm_mapfile.proofs.NumberLines.{spaced_no_newline}
 use Rattle.pm_mapfile.proofs.TailLemmas.{cut_alike, has_newline}
-use Rattle.pm_mapfile.proofs.FormLemmas.{broken_past_front, whole_map_text, after_alike}
+use Rattle.pm_mapfile.proofs.FormLemmas.{broken_past_prefix, whole_map_text, after_alike}
 use Rattle.pm_mapfile.proofs.FileLemmas.{cut_after}
 
 pub tag_residue_no_space : HasNoSpace (codes "residue")
@@ -81,9 +81,9 @@ residue_is text numbers line = record { fit = record { each = line.fit }; spelle
 -- a residue line, and bytes after it
 pub residue_followed : (after : ℕ) (bytes text numbers : List ℕ) (new : Reading) → IsNextLine (reading_of bytes) new text true after → IsNumbersLine (codes "residue") text numbers → new.rest ≢ [] → IsBrokenLine IsAfterMap bytes 2
 residue_followed after bytes text numbers new next line more =
-    let front = text ++ newline ∷ [] in
-    next_line_is_broken IsAfterMap 1 bytes front new.rest [] (next.left ∙ sym (append_assoc text (newline ∷ []) new.rest)) (one_whole_line text next.no_newline)
-    (Some numbers, subst (IsResidue (Some numbers)) (sym (append-nil front)) (residue_is text numbers line))
+    let prefix = text ++ newline ∷ [] in
+    next_line_is_broken IsAfterMap 1 bytes prefix new.rest [] (next.left ∙ sym (append_assoc text (newline ∷ []) new.rest)) (one_whole_line text next.no_newline)
+    (Some numbers, subst (IsResidue (Some numbers)) (sym (append-nil prefix)) (residue_is text numbers line))
     (λ other is same.
     let one = residue_line text other next.no_newline (subst IsAfterMap (append_assoc text (newline ∷ []) other) is) in
     more (is_unfinished [] new.rest HasNoNewline-nil (sym same ∙ ap (first_lines 1) one.ends)))
@@ -98,7 +98,7 @@ pub after_broken : (form : List ℕ → Type 0) (edges root after line other : �
     → line ≡ length sizes + 2 + other → IsBrokenLine (IsTextBefore form) bytes line
 after_broken form edges root after line other bytes darts sizes r positive b count =
     let m : MapLines = record { edges = edges; root = root; vertices = r.vertices } in
-    let past = broken_past_front (IsTextBefore form) form (length r.vertices + 2) other (lines_text m) (drop after bytes) (whole_map_text m r.are_lines)
+    let past = broken_past_prefix (IsTextBefore form) form (length r.vertices + 2) other (lines_text m) (drop after bytes) (whole_map_text m r.are_lines)
     (λ rest f. subst form (sym (after_alike m f.lines rest f.rest r.are_lines f.are_lines f.spelled)) f.after)
     (λ rest is. record { lines = m; are_lines = r.are_lines; rest = rest; after = is; spelled = refl })
     positive b in

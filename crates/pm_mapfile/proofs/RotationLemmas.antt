@@ -156,13 +156,13 @@ followed_by_next sizes darts before count start place t long h from less =
     let size = get_or sizes count 0 in
     let fits = next_fits sizes darts before count start t h in
     let n = start + size - (start + 1) in
-    let front = take n (drop (start + 1) darts) in
+    let prefix = take n (drop (start + 1) darts) in
     let here : start + (place - start) ≡ place = omega (arith, from) in
     let there : start + 1 + (place - start) ≡ place + 1 = omega (arith, from) in
     let inside : place - start < n = omega (arith, from, less) in
-    let long_front : length front ≡ n = length-take-le n (drop (start + 1) darts) (omega (arith, length-drop (start + 1) darts, fits.0, fits.1)) in
+    let long_prefix : length prefix ≡ n = length-take-le n (drop (start + 1) darts) (omega (arith, length-drop (start + 1) darts, fits.0, fits.1)) in
     ap (λ p. get_or (turned_lines sizes darts) p 0) (sym here) ∙ line_at sizes darts before count start (place - start) t long h (omega (arith, from, less))
-    ∙ get_or_append_left front (get_or darts start 0 ∷ []) 0 (place - start) (omega (arith, inside, long_front))
+    ∙ get_or_append_left prefix (get_or darts start 0 ∷ []) 0 (place - start) (omega (arith, inside, long_prefix))
     ∙ get_or-take n (drop (start + 1) darts) (place - start) 0 inside ∙ get_or-drop (start + 1) darts (place - start) 0 ∙ ap (λ p. get_or darts p 0) there
 
 -- the last dart of a line is followed by the first
@@ -173,10 +173,10 @@ followed_by_first sizes darts before count start t long h =
     let fits = next_fits sizes darts before count start t h in
     let n = start + size - (start + 1) in
     let here : start + (size - 1) ≡ start + size - 1 = omega (arith, fits.0) in
-    let front = take n (drop (start + 1) darts) in
-    let long_front : length front ≡ size - 1 = length-take-le n (drop (start + 1) darts) (omega (arith, length-drop (start + 1) darts, fits.0, fits.1)) ∙ omega (arith, fits.0) in
+    let prefix = take n (drop (start + 1) darts) in
+    let long_prefix : length prefix ≡ size - 1 = length-take-le n (drop (start + 1) darts) (omega (arith, length-drop (start + 1) darts, fits.0, fits.1)) ∙ omega (arith, fits.0) in
     ap (λ p. get_or (turned_lines sizes darts) p 0) (sym here) ∙ line_at sizes darts before count start (size - 1) t long h (omega (arith, fits.0))
-    ∙ get_or_push front (get_or darts start 0) 0 (size - 1) long_front
+    ∙ get_or_push prefix (get_or darts start 0) 0 (size - 1) long_prefix
 
 -- the followers of one line more are written
 pub writing_more : (sizes darts : List ℕ) (followers more : List (Option ℕ)) (count start : ℕ) → (w : AreWritingLines sizes darts followers count start) → count < length sizes

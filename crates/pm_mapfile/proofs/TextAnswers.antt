@@ -60,7 +60,7 @@ answers_text edges root after limit bytes darts sizes answer r answered = record
   are_lines = r.are_lines;
   rest = drop after bytes;
   spelled = cut_after edges root after bytes darts sizes r;
-  place = let front = ap length r.front in omega (arith, front, length-take after bytes, r.within);
+  place = let prefix = ap length r.prefix in omega (arith, prefix, length-take after bytes, r.within);
   answered = answered r.vertices r.are_lines r.darts_are r.sizes_are;
 }
 

@@ -9,7 +9,7 @@ use Rattle.pm_text.proofs.LeadingLemmas.{leading_is_unique}
 use Rattle.pm_lists.specs.Numbers.{spaced_numbers}
 use Rattle.pm_lists.specs.steps.Numbers.{EndsNumbers, IsLonger, IsReadingNumbers}
 use Rattle.pm_lists.proofs.NumberLemmas as numbers
-use Rattle.pm_lists.proofs.NumberLemmas.{IsNextNumber, at_front, last_number, next_number}
+use Rattle.pm_lists.proofs.NumberLemmas.{IsNextNumber, at_prefix, last_number, next_number}
 use Rattle.pm_mapfile.specs.MapText.{vertex_line}
 use Rattle.pm_mapfile.specs.MapFile.{IsVertexLine}
 use Rattle.pm_mapfile.specs.steps.Lines.{HasNoVertex, IsReadingDarts, ReadsDarts}
@@ -93,8 +93,8 @@ no_end darts bytes place old new r other unended vertex more is room e =
     let reading = r.reading in
     let last = last_number bytes place r.vertex vertex (10 ∷ more) (reading.onward vertex (10 ∷ more) is.fit (newline_ends more) (e ∙ line_and_more vertex more)) other in
     let within : place < length bytes = omega (arith, ap length last.rest_is, length-drop place bytes) in
-    let one = unended within (at_front bytes place 10 more last.rest_is) in
-    omega (arith, one, length-take-le place bytes reading.within, ap length reading.front, words_some r.vertex (omega (arith, is.some, ap length last.whole_is)))
+    let one = unended within (at_prefix bytes place 10 more last.rest_is) in
+    omega (arith, one, length-take-le place bytes reading.within, ap length reading.prefix, words_some r.vertex (omega (arith, is.some, ap length last.whole_is)))
 
 -- the line ends
 pub reading_ends : (darts : ℕ) (bytes : List ℕ) (place : ℕ) (old new : List ℕ) → IsReadingDarts darts bytes place old new → place < length bytes → get_or bytes place 0 ≡ 10 → place ≢ 1
@@ -103,7 +103,7 @@ reading_ends darts bytes place old new r h ended some = record {
   vertex = r.vertex;
   is_vertex = record { some = has_dart; below = r.below; fit = reading.fit };
   within = omega arith;
-  line = take_more bytes place 0 h ∙ ap (λ b. take place bytes ++ b ∷ []) ended ∙ ap (λ l. l ++ 10 ∷ []) reading.front;
+  line = take_more bytes place 0 h ∙ ap (λ b. take place bytes ++ b ∷ []) ended ∙ ap (λ l. l ++ 10 ∷ []) reading.prefix;
   appended = r.appended;
   room = r.room has_dart;
 } where
@@ -114,7 +114,7 @@ reading_ends darts bytes place old new r h ended some = record {
   has_dart = elim (cases_lt 0 (length r.vertex)) [
     | inl is ↦ is
     | inr none ↦ absurd (some (let long = length-take-le place bytes reading.within in
-        let front = ap length (reading.front ∙ ap (λ l. codes "v" ++ spaced_numbers l) (nil_from_length r.vertex (omega (arith, none)))) in omega (arith, long, front)))
+        let prefix = ap length (reading.prefix ∙ ap (λ l. codes "v" ++ spaced_numbers l) (nil_from_length r.vertex (omega (arith, none)))) in omega (arith, long, prefix)))
   ]
 
 -- what was appended is something more

@@ -12,7 +12,7 @@ use pm_lists::NumList;
 use pm_map::{MapRefusal, RootedMap};
 use std::alloc::Global;
 
-/// Reads the text of a map at the front of `bytes`, where the map has at most `limit` edges, and answers the map and the
+/// Reads the text of a map at the prefix of `bytes`, where the map has at most `limit` edges, and answers the map and the
 /// place after the line `end`, counted in bytes from the start. Anything may follow. It takes time and memory linear in
 /// the bytes.
 ///

@@ -51,7 +51,7 @@ struct FirstLine {
     root: u64,
 }
 
-/// Reads the text of a map at the front of `bytes`.
+/// Reads the text of a map at the prefix of `bytes`.
 ///
 /// # Errors
 ///
@@ -132,7 +132,7 @@ fn read_first(alloc: Global, text: &[u8]) -> Result<Option<FirstLine>, AllocErro
     }
 }
 
-// Appends the darts of the line of a vertex at the front of `bytes`, and how many they are, where there is room for so many
+// Appends the darts of the line of a vertex at the prefix of `bytes`, and how many they are, where there is room for so many
 // among the darts of so many edges, and answers how many bytes the line has; or answers `None` exactly where no such line
 // stands there or there is no room, and appends nothing.
 fn read_vertex(
@@ -154,7 +154,7 @@ fn read_vertex(
     Ok(Some(count))
 }
 
-// Appends the darts of the line at the front of `bytes`, as above; where it answers `None` it may have appended some.
+// Appends the darts of the line at the prefix of `bytes`, as above; where it answers `None` it may have appended some.
 fn push_darts(bytes: &[u8], edges: u64, darts: &mut Vec<u64>) -> Result<Option<usize>, AllocError>
     ensures { IfOk result (λ found. MatchOption found
         (HasNoVertex (2 * edges) bytes.now darts.old.items × IsLonger darts.old.items darts.new.items)

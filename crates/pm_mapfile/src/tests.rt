@@ -176,7 +176,7 @@ fn refusal_of_sample(alloc: Global, bytes: &[u8], limit: u32) -> Option<FileRefu
     }
 }
 
-// The same of a map text at the front of the bytes.
+// The same of a map text at the prefix of the bytes.
 fn refusal_of_text(alloc: Global, bytes: &[u8], limit: u32) -> Option<FileRefusal> {
     if bytes.len() > 1000 || limit > 1000 {
         return Some(FileRefusal::Memory);
@@ -188,8 +188,8 @@ fn refusal_of_text(alloc: Global, bytes: &[u8], limit: u32) -> Option<FileRefusa
 }
 
 #[test]
-fn every_front_of_a_file(rt: HostRuntime) {
-    // 0 where the front is a file
+fn every_prefix_of_a_file(rt: HostRuntime) {
+    // 0 where the prefix is a file
     let lines: [u32; 49] = [
         1, 1, 1, 1, 1, 1, 1, 1, 2, 2, 2, 2, 2, 2, 2, 2, 2, 2, 3, 3, 3, 3, 3, 3, 3, 3, 3, 3, 4, 4,
         4, 4, 0, 5, 5, 5, 5, 5, 5, 5, 5, 5, 5, 5, 5, 5, 5, 5, 0,

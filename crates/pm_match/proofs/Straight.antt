@@ -11,7 +11,7 @@ pub record IsStraight (places : List ℕ) : Type 0 where
   pub surplus : HasSurplus places
   pub plant : IsFree places 0
 
--- no front has more than two leaves more than buds
+-- no prefix has more than two leaves more than buds
 pub low : (places : List ℕ) → IsStraight places → (k : ℕ) → k ≤ length places → leaves places k ≤ buds places k + 2
 low places s k le = elim (cases_lt (buds places k + 2) (leaves places k)) [
   | inr fine ↦ omega (arith, fine)

@@ -9,7 +9,7 @@ abbrev pub stretch : List ℕ → ℕ → ℕ → List ℕ
 stretch places p n = take n (drop (suc p) (places ++ places))
 
 -- A bud at p and a leaf at q are a pair where the cyclic stretch strictly between them has as many buds as leaves, and no
--- front of it has more leaves than buds.
+-- prefix of it has more leaves than buds.
 pub record IsPair (places : List ℕ) (p q : ℕ) : Type 0 where
   pub bud : slice_index places p ≡ BUD
   pub leaf : slice_index places q ≡ LEAF

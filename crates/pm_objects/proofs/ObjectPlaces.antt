@@ -76,10 +76,10 @@ pub put_whole : (arities : List ℕ) (arity : ℕ) (list before objects : List �
 put_whole arities arity list before objects next place a many all p inside e = elim (cases_lt p place) [
   | inl within ↦ within
   | inr past ↦
-      let front : with_arity arity (take place (take p arities)) ≤ with_arity arity (take p arities) = sum_by-take-le (λ (y : ℕ). cond (y == arity) 1 0) (take p arities) place in
+      let prefix : with_arity arity (take place (take p arities)) ≤ with_arity arity (take p arities) = sum_by-take-le (λ (y : ℕ). cond (y == arity) 1 0) (take p arities) place in
       let same : take place (take p arities) ≡ take place arities = take-take place p arities past in
       let one = with_arity_more arity arities p inside e in
       let whole = sum_by-take-le (λ (y : ℕ). cond (y == arity) 1 0) arities (p + 1) in
       let counted = a.next_is in
-      absurd (omega (arith, front, ap (with_arity arity) same, one, whole, counted, many, all))
+      absurd (omega (arith, prefix, ap (with_arity arity) same, one, whole, counted, many, all))
 ]

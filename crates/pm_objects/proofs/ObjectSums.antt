@@ -102,20 +102,20 @@ pub sum_by-turned : {X : Type 0} (f : X → ℕ) (start : ℕ) (xs : List X) →
 sum_by-turned f start xs = omega (arith, sum_by-append f (drop start xs) (take start xs), sum_by-take-drop f xs start)
 
 -- a sum over numbers, of which those past a list count as 0
-upto-front : (g : ℕ → ℕ) (xs : List ℕ) (n : ℕ) → n ≤ length xs → sum_upto (λ k. g (get_or xs k 0)) n ≡ sum_by g (take n xs)
-upto-front g xs zero within = sum_upto-none (λ k. g (get_or xs k 0))
-upto-front g xs (suc n) within =
+upto-prefix : (g : ℕ → ℕ) (xs : List ℕ) (n : ℕ) → n ≤ length xs → sum_upto (λ k. g (get_or xs k 0)) n ≡ sum_by g (take n xs)
+upto-prefix g xs zero within = sum_upto-none (λ k. g (get_or xs k 0))
+upto-prefix g xs (suc n) within =
     let e : n + 1 ≡ suc n = omega arith in
     let a = sum_by_more g xs n 0 (omega arith) in
     let b = ap (λ (k : ℕ). sum_by g (take k xs)) e in
-    omega (arith, sum_upto-more (λ k. g (get_or xs k 0)) n, upto-front g xs n (omega arith), a, b)
+    omega (arith, sum_upto-more (λ k. g (get_or xs k 0)) n, upto-prefix g xs n (omega arith), a, b)
 
 upto-past : (g : ℕ → ℕ) (xs : List ℕ) (more : ℕ) → sum_upto (λ k. g (get_or xs k 0)) (length xs + more) ≡ sum_by g xs + more * g 0
 upto-past g xs zero =
     let e : length xs + 0 ≡ length xs = omega arith in
     let a = ap (λ (k : ℕ). sum_upto (λ k. g (get_or xs k 0)) k) e in
     let b = ap (λ (ys : List ℕ). sum_by g ys) (take_all (length xs) xs (omega arith)) in
-    omega (arith, a, b, upto-front g xs (length xs) (omega arith))
+    omega (arith, a, b, upto-prefix g xs (length xs) (omega arith))
 upto-past g xs (suc more) =
     let e : length xs + suc more ≡ suc (length xs + more) = omega arith in
     let a = ap (λ (k : ℕ). sum_upto (λ k. g (get_or xs k 0)) k) e in

@@ -15,14 +15,14 @@ use Rattle.pm_objects.proofs.ObjectCounts.{HasObjects, find_range}
 use Rattle.pm_objects.proofs.ObjectSums.{sum_by-permutation, sum_by-turned, sum_upto}
 use Rattle.pm_objects.proofs.Sorting.{one_sorting, sum_by-kept}
 
--- lists with as many entries in front of the others
+-- lists with as many entries before the others
 record IsSameCut (xs ys us vs : List ℕ) : Type 0 where
-  fronts : xs ≡ ys
+  prefixes : xs ≡ ys
   rests : us ≡ vs
 
 same_cut : (xs ys us vs : List ℕ) → length xs ≡ length ys → xs ++ us ≡ ys ++ vs → IsSameCut xs ys us vs
 same_cut xs ys us vs long e = record {
-  fronts = sym (take-append_seam xs us) ∙ ap₂ (λ (n : ℕ) (ls : List ℕ). take n ls) long e ∙ take-append_seam ys vs;
+  prefixes = sym (take-append_seam xs us) ∙ ap₂ (λ (n : ℕ) (ls : List ℕ). take n ls) long e ∙ take-append_seam ys vs;
   rests = sym (drop-append_seam xs us) ∙ ap₂ (λ (n : ℕ) (ls : List ℕ). drop n ls) long e ∙ drop-append_seam ys vs;
 }
 
@@ -37,7 +37,7 @@ same_parts f g [] us vs long e = record { each = λ k less. absurd (omega arith)
 same_parts f g (p ∷ ranges) us vs long e =
     let cut = same_cut (f p) (g p) (flat_map f ranges ++ us) (flat_map g ranges ++ vs) (long 0 (omega arith)) (sym (append_assoc (f p) (flat_map f ranges) us) ∙ e ∙ append_assoc (g p) (flat_map g ranges) vs) in
     let rest = same_parts f g ranges us vs (λ k less. long (suc k) (omega arith)) cut.rests in
-    record { each = both cut.fronts rest.each; rests = rest.rests } where
+    record { each = both cut.prefixes rest.each; rests = rest.rests } where
       both : f p ≡ g p → ((k : ℕ) → k < length ranges → f (range_at ranges k) ≡ g (range_at ranges k)) → (k : ℕ) → k < suc (length ranges) → f (range_at (p ∷ ranges) k) ≡ g (range_at (p ∷ ranges) k)
       both here later zero less = here
       both here later (suc k) less = later k (omega arith)
@@ -64,7 +64,7 @@ turned_injective start xs ys long e =
     let a = length-drop start xs in
     let b = length-drop start ys in
     let cut = same_cut (drop start xs) (drop start ys) (take start xs) (take start ys) (omega (arith, a, b, long)) e in
-    sym (take-append-drop start xs) ∙ ap₂ (λ (us vs : List ℕ). us ++ vs) cut.rests cut.fronts ∙ take-append-drop start ys
+    sym (take-append-drop start xs) ∙ ap₂ (λ (us vs : List ℕ). us ++ vs) cut.rests cut.prefixes ∙ take-append-drop start ys
 
 -- objects whose codes by range are the same
 module _ (ranges : List (ℕ × ℕ)) (leaves : ℕ) (xs ys : List ℕ) (x_has : HasObjects ranges leaves xs) (y_has : HasObjects ranges leaves ys)

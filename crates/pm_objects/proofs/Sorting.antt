@@ -166,7 +166,7 @@ sum_by-kept f p (x ∷ xs) =
 -- a list that is turned has the same entries
 pub stands_turned : (start : ℕ) (xs : List ℕ) (n : ℕ) → Contains xs n → Contains (turned start xs) n
 stands_turned start xs n s = elim (Contains-append_cases (take start xs) (drop start xs) n (subst (λ (list : List ℕ). Contains list n) (sym (take-append-drop start xs)) s)) [
-  | inl front ↦ Contains-append_right (drop start xs) (take start xs) n front
+  | inl prefix ↦ Contains-append_right (drop start xs) (take start xs) n prefix
   | inr back ↦ Contains-append_left (drop start xs) (take start xs) n back
 ]
 

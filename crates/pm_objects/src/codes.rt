@@ -51,7 +51,7 @@ fn code_of_arity(
     code(alloc, &kept[..many])
 }
 
-/// Writes the objects of this arity, as they come, to the front of the list, and says how many there are. Each object is
+/// Writes the objects of this arity, as they come, to the prefix of the list, and says how many there are. Each object is
 /// written behind those that are kept, so that no step branches.
 fn keep_objects(arities: &[u32], arity: u32, objects: &[u32], kept: &mut [u32]) -> usize
     requires { length objects.now < length kept.old }

@@ -87,7 +87,7 @@ module _ (places : List ℕ) (first second : ℕ) (other : ℕ → ℕ) (a b : �
       let g = folded.of_first (a + k) (omega arith) (omega arith) (stands_is places first a k f) in
       over_injective j k (omega arith) (omega arith) (omega (arith, h.0)) (omega (arith, g.0)) same)
 
-  -- no front of the stretch has more second letters than first ones
+  -- no prefix of the stretch has more second letters than first ones
   pub folded_below : (j : ℕ) → a ≤ j → j ≤ b → 0 < first → 0 < second → seen second places j + seen first places a ≤ seen first places j + seen second places a
   folded_below j low high some_first some_second =
       let e : a + (j - a) ≡ j = omega arith in

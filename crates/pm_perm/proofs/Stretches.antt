@@ -29,11 +29,11 @@ between-bounds low high k e =
     (ltb-false k low (not-true (ltb k low) parts.0), ltb-true k high parts.1)
 
 -- the numbers below a bound that pass, counted among more numbers
-count_below-front : (passes : ℕ → Bool) (m n : ℕ) → m ≤ n → count_below passes m ≡ count_below (λ k. ltb k m && passes k) n
-count_below-front passes m zero h = let e : m ≡ 0 = omega arith in ap (count_below passes) e
-count_below-front passes m (suc n) h = elim (cases_eq m (suc n)) [
+count_below-prefix : (passes : ℕ → Bool) (m n : ℕ) → m ≤ n → count_below passes m ≡ count_below (λ k. ltb k m && passes k) n
+count_below-prefix passes m zero h = let e : m ≡ 0 = omega arith in ap (count_below passes) e
+count_below-prefix passes m (suc n) h = elim (cases_eq m (suc n)) [
   | inl all ↦ ap (count_below passes) all ∙ count_below-same passes (λ k. ltb k m && passes k) (suc n) (λ k hk. ap (λ b. b && passes k) (sym (lt-ltb k m (omega (arith, all, hk)))))
-  | inr fewer ↦ last passes m n (omega (arith, fewer)) (count_below-front passes m n (omega (arith, fewer)))
+  | inr fewer ↦ last passes m n (omega (arith, fewer)) (count_below-prefix passes m n (omega (arith, fewer)))
 ] where
   last : (passes : ℕ → Bool) (m n : ℕ) → m ≤ n → count_below passes m ≡ count_below (λ k. ltb k m && passes k) n
       → count_below passes m ≡ count_below (λ k. ltb k m && passes k) (suc n)
@@ -43,7 +43,7 @@ count_below-front passes m (suc n) h = elim (cases_eq m (suc n)) [
 pub count_below-between : (passes : ℕ → Bool) (low high n : ℕ) → low ≤ high → high ≤ n
     → count_below passes low + count_below (λ k. is_between low high k && passes k) n ≡ count_below passes high
 count_below-between passes low high n h h' =
-    ap (λ c. c + count_below (λ k. is_between low high k && passes k) n) (count_below-front passes low n (omega arith))
+    ap (λ c. c + count_below (λ k. is_between low high k && passes k) n) (count_below-prefix passes low n (omega arith))
     ∙ count_below-split (λ k. ltb k low && passes k) (λ k. is_between low high k && passes k) (λ k. ltb k high && passes k) n (λ k hk. elim (cases_lt k low) [
       | inl before ↦ inl (
         ap (λ b. b && passes k) (lt-ltb k low before ∙ sym (lt-ltb k high (omega (arith, before)))),
@@ -57,7 +57,7 @@ count_below-between passes low high n h h' =
         ]),
       )
     ])
-    ∙ sym (count_below-front passes high n h')
+    ∙ sym (count_below-prefix passes high n h')
 
 -- Where pairs are nested, the number after a number's partner lies behind the lesser end of a pair and no further than its
 -- greater end exactly where the number itself does.

@@ -7,7 +7,7 @@ use Rattle.pm_brackets.specs.declared.letters.TheConstants.{OPEN, CLOSE}
 use Rattle.pm_trees.specs.declared.patterns.TheConstants.{SLOT}
 use Rattle.pm_trees.specs.BudPattern.{IsPattern}
 use Rattle.pm_brackets.proofs.Tally.{tally, tally_is, tally_yes, tally_no}
-use Rattle.pm_planting.specs.steps.Folded.{front_of, behind, fold_letter, folded, AreKindsAlong}
+use Rattle.pm_planting.specs.steps.Folded.{prefix_of, behind, fold_letter, folded, AreKindsAlong}
 use Rattle.pm_planting.specs.steps.Folded.AreKindsAlong.{ended, a_leaf, a_node, no_object}
 use Rattle.pm_planting.specs.Kinds.{AreSides, HasKind, IsWordOfKinds, half_of}
 use Rattle.pm_planting.specs.Kinds.AreSides.{none, leaf, node}
@@ -31,21 +31,21 @@ pub folded_leaf : (x : ℕ) (entries : List ℕ) → (x ≡ OPEN → ⊥) → (x
 folded_leaf x entries o c b = rw (ne_eqb x OPEN o, ne_eqb x CLOSE c, ne_eqb x BUD b) refl
 
 -- a pattern before a closing bracket
-pub front_here : (pattern rest : List ℕ) → All (λ x. (x ≡ BUD) ⊎ (x ≡ SLOT)) pattern → (front_of (pattern ++ CLOSE ∷ rest) ≡ pattern) × (behind (pattern ++ CLOSE ∷ rest) ≡ rest)
-front_here [] rest all = (refl, refl)
-front_here (x ∷ pattern) rest all =
-    let h = front_here pattern rest (All-tail (λ x. (x ≡ BUD) ⊎ (x ≡ SLOT)) x pattern all) in
+pub prefix_here : (pattern rest : List ℕ) → All (λ x. (x ≡ BUD) ⊎ (x ≡ SLOT)) pattern → (prefix_of (pattern ++ CLOSE ∷ rest) ≡ pattern) × (behind (pattern ++ CLOSE ∷ rest) ≡ rest)
+prefix_here [] rest all = (refl, refl)
+prefix_here (x ∷ pattern) rest all =
+    let h = prefix_here pattern rest (All-tail (λ x. (x ≡ BUD) ⊎ (x ≡ SLOT)) x pattern all) in
     let n : x ≡ CLOSE → ⊥ = λ e. elim (All-head (λ x. (x ≡ BUD) ⊎ (x ≡ SLOT)) x pattern all) [ inl b ↦ omega (arith, e, b) | inr s ↦ omega (arith, e, s) ] in
-    let f : front_of ((x ∷ pattern) ++ CLOSE ∷ rest) ≡ x ∷ front_of (pattern ++ CLOSE ∷ rest) = rw (ne_eqb x CLOSE n) refl in
+    let f : prefix_of ((x ∷ pattern) ++ CLOSE ∷ rest) ≡ x ∷ prefix_of (pattern ++ CLOSE ∷ rest) = rw (ne_eqb x CLOSE n) refl in
     let b : behind ((x ∷ pattern) ++ CLOSE ∷ rest) ≡ behind (pattern ++ CLOSE ∷ rest) = rw (ne_eqb x CLOSE n) refl in
     (f ∙ ap (λ (xs : List ℕ). x ∷ xs) h.0, b ∙ h.1)
 
-pub front_whole : (pattern : List ℕ) → All (λ x. (x ≡ BUD) ⊎ (x ≡ SLOT)) pattern → front_of pattern ≡ pattern
-front_whole [] all = refl
-front_whole (x ∷ pattern) all =
-    let h = front_whole pattern (All-tail (λ x. (x ≡ BUD) ⊎ (x ≡ SLOT)) x pattern all) in
+pub prefix_whole : (pattern : List ℕ) → All (λ x. (x ≡ BUD) ⊎ (x ≡ SLOT)) pattern → prefix_of pattern ≡ pattern
+prefix_whole [] all = refl
+prefix_whole (x ∷ pattern) all =
+    let h = prefix_whole pattern (All-tail (λ x. (x ≡ BUD) ⊎ (x ≡ SLOT)) x pattern all) in
     let n : x ≡ CLOSE → ⊥ = λ e. elim (All-head (λ x. (x ≡ BUD) ⊎ (x ≡ SLOT)) x pattern all) [ inl b ↦ omega (arith, e, b) | inr s ↦ omega (arith, e, s) ] in
-    let f : front_of (x ∷ pattern) ≡ x ∷ front_of pattern = rw (ne_eqb x CLOSE n) refl in
+    let f : prefix_of (x ∷ pattern) ≡ x ∷ prefix_of pattern = rw (ne_eqb x CLOSE n) refl in
     f ∙ ap (λ (xs : List ℕ). x ∷ xs) h
 
 -- before any text, this one is so many entries more, and has objects of these kinds
@@ -61,10 +61,10 @@ read_leaf = record {
 
 read_node : (kind : Kind) (text pattern : List ℕ) (kinds : List Kind) → HasKind kind pattern → IsRead text pattern kinds → IsRead (OPEN ∷ text ++ CLOSE ∷ []) (SLOT ∷ []) (kind ∷ kinds)
 read_node kind text pattern kinds p r = record {
-  folds = λ rest. folded_open OPEN (folded ((text ++ CLOSE ∷ []) ++ rest)) refl ∙ ap (λ (xs : List ℕ). SLOT ∷ xs) (ap behind (inside rest) ∙ (front_here pattern (folded rest) (kind_pattern kind pattern p).letters).1);
+  folds = λ rest. folded_open OPEN (folded ((text ++ CLOSE ∷ []) ++ rest)) refl ∙ ap (λ (xs : List ℕ). SLOT ∷ xs) (ap behind (inside rest) ∙ (prefix_here pattern (folded rest) (kind_pattern kind pattern p).letters).1);
   along = λ rest others h.
       a_node OPEN kind ((text ++ CLOSE ∷ []) ++ rest) (kinds ++ others) refl
-      (subst (HasKind kind) (sym (ap front_of (inside rest) ∙ (front_here pattern (folded rest) (kind_pattern kind pattern p).letters).0)) p)
+      (subst (HasKind kind) (sym (ap prefix_of (inside rest) ∙ (prefix_here pattern (folded rest) (kind_pattern kind pattern p).letters).0)) p)
       (subst (λ (xs : List ℕ). AreKindsAlong xs (kinds ++ others)) (sym (append_assoc text (CLOSE ∷ []) rest))
       (r.along (CLOSE ∷ rest) others (no_object CLOSE rest others (λ e. omega (arith, e)) (λ e. omega (arith, e)) h)));
 } where
@@ -131,7 +131,7 @@ pub record IsReadRoot (kinds : List Kind) (word : List ℕ) : Type 0 where
   pub kind : Kind
   pub below : List Kind
   pub kinds_are : kinds ≡ kind ∷ below
-  pub has_kind : HasKind kind (front_of (folded word))
+  pub has_kind : HasKind kind (prefix_of (folded word))
   pub along : AreKindsAlong word below
 
 pub read_root : (kinds : List Kind) (word : List ℕ) → IsWordOfKinds kinds word → IsReadRoot kinds word
@@ -145,6 +145,6 @@ read_root kinds word h =
       kind = n.kind;
       below = n.below;
       kinds_are = n.kinds_are;
-      has_kind = subst (HasKind n.kind) (sym (ap front_of entries ∙ front_whole n.pattern p.letters)) n.has_kind;
+      has_kind = subst (HasKind n.kind) (sym (ap prefix_of entries ∙ prefix_whole n.pattern p.letters)) n.has_kind;
       along = subst (AreKindsAlong word) (append-nil n.below) (subst (λ (xs : List ℕ). AreKindsAlong xs (n.below ++ [])) letters (r.along [] [] ended));
     }

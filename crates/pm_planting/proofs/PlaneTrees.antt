@@ -19,7 +19,7 @@ use Rattle.pm_planting.proofs.KindPatterns.{no_leaf, one_pattern}
 use Rattle.pm_planting.proofs.RootNodes.{no_kinds}
 use Rattle.pm_planting.proofs.SideTexts.{same_push}
 
--- the kinds and the texts of as many trees, each at the front of the same list of kinds
+-- the kinds and the texts of as many trees, each at the prefix of the same list of kinds
 record AreSameSides (xs ys : List Kind) (texts others : List (List ℕ)) : Type 0 where
   same_kinds : xs ≡ ys
   same_texts : texts ≡ others

@@ -76,22 +76,22 @@ bud_entry x word o bud h =
     }
 
 -- a slot with the text of a tree
-slot_entry : (text word all : List ℕ) (front : List Kind) → HasEntries word → text ++ word ≡ all → All IsKind front
-    → ((kinds : List Kind) (sides : List (List ℕ)) → AreSides kinds sides → AreSides (front ++ kinds) (text ∷ sides))
+slot_entry : (text word all : List ℕ) (prefix : List Kind) → HasEntries word → text ++ word ≡ all → All IsKind prefix
+    → ((kinds : List Kind) (sides : List (List ℕ)) → AreSides kinds sides → AreSides (prefix ++ kinds) (text ∷ sides))
     → length (own_letters 0 all) ≡ suc (length (own_letters 0 word)) → tally BUD (own_letters 0 all) ≡ tally BUD (own_letters 0 word) → HasEntries all
-slot_entry text word all front h same each side entries buds =
+slot_entry text word all prefix h same each side entries buds =
     let t = tally_no BUD SLOT h.pattern (λ e. omega (arith, e)) in
     let m = h.as_many in
     let e = h.entries in
     let b = h.buds in
     record {
-      kinds = front ++ h.kinds;
+      kinds = prefix ++ h.kinds;
       pattern = SLOT ∷ h.pattern;
       sides = text ∷ h.sides;
       letters = All-cons (λ x. (x ≡ BUD) ⊎ (x ≡ SLOT)) SLOT h.pattern (inr refl) h.letters;
       as_many = omega (arith, t, m);
       are_sides = side h.kinds h.sides h.are_sides;
-      each = All-append IsKind front h.kinds each h.each;
+      each = All-append IsKind prefix h.kinds each h.each;
       word_is = filled_slot SLOT h.pattern text h.sides (λ e. omega (arith, e)) ∙ ap (λ (w : List ℕ). text ++ w) h.word_is ∙ same;
       entries = omega (arith, entries, e);
       buds = omega (arith, t, buds, b);
@@ -104,11 +104,11 @@ leaf_entry x word o here h =
     (ap (tally BUD) own ∙ tally_no BUD x (own_letters 0 word) (λ e. omega (arith, e, here)))
 
 -- a node with its half degree and rank
-record IsNodeOf (word : List ℕ) (front : List Kind) : Type 0 where
-  each : All IsKind front
-  more : (kinds : List Kind) (sides : List (List ℕ)) → AreSides kinds sides → AreSides (front ++ kinds) ((OPEN ∷ word ++ CLOSE ∷ []) ∷ sides)
+record IsNodeOf (word : List ℕ) (prefix : List Kind) : Type 0 where
+  each : All IsKind prefix
+  more : (kinds : List Kind) (sides : List (List ℕ)) → AreSides kinds sides → AreSides (prefix ++ kinds) ((OPEN ∷ word ++ CLOSE ∷ []) ∷ sides)
 
-node_of : (word : List ℕ) → HasEntries word → value bad 1 word ≡ 0 → (front : List Kind) × IsNodeOf word front
+node_of : (word : List ℕ) → HasEntries word → value bad 1 word ≡ 0 → (prefix : List Kind) × IsNodeOf word prefix
 node_of word h none_here =
     let v = value_is bad 1 word in
     let b = bad_is (1 + length (own_letters 0 word)) (tally BUD (own_letters 0 word)) in
@@ -132,10 +132,10 @@ node_of word h none_here =
       },
     )
 
-node_entry : (xs ys : List ℕ) (front : List Kind) → IsDyck xs → IsNodeOf xs front → HasEntries ys → HasEntries (OPEN ∷ (xs ++ CLOSE ∷ ys))
-node_entry xs ys front a n h =
+node_entry : (xs ys : List ℕ) (prefix : List Kind) → IsDyck xs → IsNodeOf xs prefix → HasEntries ys → HasEntries (OPEN ∷ (xs ++ CLOSE ∷ ys))
+node_entry xs ys prefix a n h =
     let own = own_bracket xs ys a in
-    slot_entry (OPEN ∷ xs ++ CLOSE ∷ []) ys (OPEN ∷ (xs ++ CLOSE ∷ ys)) front h (ap (λ (w : List ℕ). OPEN ∷ w) (append_assoc xs (CLOSE ∷ []) ys)) n.each (λ kinds sides k. n.more kinds sides k) (ap length own)
+    slot_entry (OPEN ∷ xs ++ CLOSE ∷ []) ys (OPEN ∷ (xs ++ CLOSE ∷ ys)) prefix h (ap (λ (w : List ℕ). OPEN ∷ w) (append_assoc xs (CLOSE ∷ []) ys)) n.each (λ kinds sides k. n.more kinds sides k) (ap length own)
     (ap (tally BUD) own ∙ tally_no BUD OPEN (own_letters 0 ys) (λ e. omega (arith, e)))
 
 -- letters before and behind a bracket

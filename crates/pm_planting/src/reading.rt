@@ -1,6 +1,6 @@
 //! Reading: a blossoming tree is a plane tree with a bud pattern at each node.
 ghost use Rattle.std.specs.Prelude.{◌≡◌, IfOk, OnOk, reverse};
-ghost use Rattle.pm_planting.specs.steps.Folded.{front_of, behind};
+ghost use Rattle.pm_planting.specs.steps.Folded.{prefix_of, behind};
 ghost use Rattle.pm_planting.specs.Kinds.{HasKind, IsKind, IsWordOfKinds};
 
 use crate::kind::Kind;
@@ -36,8 +36,8 @@ pub fn kinds_of_tree(alloc: Global, tree: &Tree) -> Result<Vec<Kind>, AllocError
 
 /// Takes off the entries of the last node, which are in the list for its pattern then, and tells its kind.
 fn end_node(entries: &mut Vec<u8>, pattern: &mut Vec<u8>) -> Result<Kind, AllocError>
-    requires { (kind : Kind) × IsKind kind × HasKind kind (front_of (reverse entries.old.items)) }
-    ensures kind { IfOk result (λ kind. HasKind kind (front_of (reverse entries.old.items))) }
+    requires { (kind : Kind) × IsKind kind × HasKind kind (prefix_of (reverse entries.old.items)) }
+    ensures kind { IfOk result (λ kind. HasKind kind (prefix_of (reverse entries.old.items))) }
     ensures rest { OnOk result (reverse entries.new.items ≡ behind (reverse entries.old.items)) }
 {
     take_entries(entries, pattern)?;
@@ -46,17 +46,17 @@ fn end_node(entries: &mut Vec<u8>, pattern: &mut Vec<u8>) -> Result<Kind, AllocE
     Ok(Kind::Node { half, rank })
 }
 
-/// Takes off the last entries up to a closing bracket, and the bracket. The front has them alone then.
-fn take_entries(entries: &mut Vec<u8>, front: &mut Vec<u8>) -> Result<(), AllocError>
-    ensures front { OnOk result (front.new.items ≡ front_of (reverse entries.old.items)) }
+/// Takes off the last entries up to a closing bracket, and the bracket. The prefix has them alone then.
+fn take_entries(entries: &mut Vec<u8>, prefix: &mut Vec<u8>) -> Result<(), AllocError>
+    ensures prefix { OnOk result (prefix.new.items ≡ prefix_of (reverse entries.old.items)) }
     ensures rest { OnOk result (reverse entries.new.items ≡ behind (reverse entries.old.items)) }
 {
-    front.clear();
+    prefix.clear();
     'entries: while let Some(entry) = entries.pop() {
         if entry == CLOSE {
             return Ok(());
         }
-        front.push(entry)?;
+        prefix.push(entry)?;
     }
     Ok(())
 }

@@ -75,8 +75,8 @@ length-numbered F G v w n =
       | inr e ↦ omega (arith, ap length (n.odd e).1, length_push F v)
     ]
 
-front-numbered : (F G : List ℕ) (v w j : ℕ) → IsNumbered F G v w → j < length F → slice_index G j ≡ slice_index F j
-front-numbered F G v w j n q =
+prefix-numbered : (F G : List ℕ) (v w j : ℕ) → IsNumbered F G v w → j < length F → slice_index G j ≡ slice_index F j
+prefix-numbered F G v w j n q =
     elim (cases_eq (v % 2) 0) [
       | inl e ↦ ap (λ (xs : List ℕ). slice_index xs j) (n.even e).1
       | inr e ↦ ap (λ (xs : List ℕ). slice_index xs j) (n.odd e).1 ∙ get_or_append_left F (v ∷ []) 0 j q
@@ -86,7 +86,7 @@ stands-kept : (F G : List ℕ) (v w a b : ℕ) → IsNumbered F G v w → Stands
 stands-kept F G v w a b n s =
     elim s [
       | inl e ↦ inl e
-      | inr o ↦ inr (o.0, (o.1.0, (omega (arith, o.1.1.0, length-numbered F G v w n), (front-numbered F G v w o.1.0 n o.1.1.0 ∙ o.1.1.1.0, o.1.1.1.1))))
+      | inr o ↦ inr (o.0, (o.1.0, (omega (arith, o.1.1.0, length-numbered F G v w n), (prefix-numbered F G v w o.1.0 n o.1.1.0 ∙ o.1.1.1.0, o.1.1.1.1))))
     ]
 
 stands-new : (F G : List ℕ) (v w : ℕ) → IsNumbered F G v w → StandsFor G v w
@@ -133,8 +133,8 @@ met-step L F G H T V met w x m s =
     let U = T ++ w ∷ [] in
     let long = m.long in
     let ulong : length U ≡ 2 * met + 2 = omega (arith, length_push T w) in
-    let front : (j : ℕ) → j < length F → slice_index F j ≡ slice_index H j = λ j q.
-    sym (front-numbered G H u x j s.second (omega (arith, length-numbered F G v w s.first)) ∙ front-numbered F G v w j s.first q) in
+    let prefix : (j : ℕ) → j < length F → slice_index F j ≡ slice_index H j = λ j q.
+    sym (prefix-numbered G H u x j s.second (omega (arith, length-numbered F G v w s.first)) ∙ prefix-numbered F G v w j s.first q) in
     let keeps : (a b : ℕ) → StandsFor F a b → StandsFor H a b = λ a b h. stands-kept G H u x a b s.second (stands-kept F G v w a b s.first h) in
     let old : (j : ℕ) → j < length T → slice_index T j ≡ slice_index V j = λ j q.
     sym (ap (λ (xs : List ℕ). slice_index xs j) s.pushed ∙ (get_or_append_left U (x ∷ []) 0 j (omega arith) ∙ get_or_append_left T (w ∷ []) 0 j q)) in
@@ -142,20 +142,20 @@ met-step L F G H T V met w x m s =
     sym (ap (λ (xs : List ℕ). slice_index xs (2 * met + 1)) s.pushed ∙ (get_or_append_left U (x ∷ []) 0 (2 * met + 1) (omega arith) ∙ get_or_push T w 0 (2 * met + 1) long)) in
     let high : x ≡ slice_index V (suc (2 * met + 1)) =
     sym (ap (λ (xs : List ℕ). slice_index xs (suc (2 * met + 1))) s.pushed ∙ get_or_push U x 0 (suc (2 * met + 1)) (omega arith)) in
-    let here = front met s.some in
+    let here = prefix met s.some in
     record {
       long = omega (arith, ap length s.pushed, length_push U x);
       root = stands-at H (slice_index L 0) (slice_index T 0) (slice_index L 0) (slice_index V 0) refl (old 0 (omega arith)) (keeps (slice_index L 0) (slice_index T 0) m.root);
       left = λ j q. elim (cases_lt j met) [
         | inl i ↦ stands-at H (slice_index L (slice_index F j)) (slice_index T (2 * j + 1)) (slice_index L (slice_index H j)) (slice_index V (2 * j + 1))
-            (ap (slice_index L) (front j (omega (arith, s.some)))) (old (2 * j + 1) (omega arith)) (keeps (slice_index L (slice_index F j)) (slice_index T (2 * j + 1)) (m.left j i))
+            (ap (slice_index L) (prefix j (omega (arith, s.some)))) (old (2 * j + 1) (omega arith)) (keeps (slice_index L (slice_index F j)) (slice_index T (2 * j + 1)) (m.left j i))
         | inr i ↦ let e : met ≡ j = omega arith in
             subst (λ (n : ℕ). StandsFor H (slice_index L (slice_index H n)) (slice_index V (2 * n + 1))) e
             (stands-at H v w (slice_index L (slice_index H met)) (slice_index V (2 * met + 1)) (ap (slice_index L) here) low (stands-kept G H u x v w s.second (stands-new F G v w s.first)))
       ];
       right = λ j q. elim (cases_lt j met) [
         | inl i ↦ stands-at H (slice_index L (suc (slice_index F j))) (slice_index T (suc (2 * j + 1))) (slice_index L (suc (slice_index H j))) (slice_index V (suc (2 * j + 1)))
-            (ap (λ (y : ℕ). slice_index L (suc y)) (front j (omega (arith, s.some)))) (old (suc (2 * j + 1)) (omega arith)) (keeps (slice_index L (suc (slice_index F j))) (slice_index T (suc (2 * j + 1))) (m.right j i))
+            (ap (λ (y : ℕ). slice_index L (suc y)) (prefix j (omega (arith, s.some)))) (old (suc (2 * j + 1)) (omega arith)) (keeps (slice_index L (suc (slice_index F j))) (slice_index T (suc (2 * j + 1))) (m.right j i))
         | inr i ↦ let e : met ≡ j = omega arith in
             subst (λ (n : ℕ). StandsFor H (slice_index L (suc (slice_index H n))) (slice_index V (suc (2 * n + 1)))) e
             (stands-at H u x (slice_index L (suc (slice_index H met))) (slice_index V (suc (2 * met + 1))) (ap (λ (y : ℕ). slice_index L (suc y)) here) high (stands-new G H u x s.second))

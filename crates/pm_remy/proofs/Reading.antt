@@ -41,7 +41,7 @@ falling-shape word h =
           let forks_whole = ap forks_in (take-append-drop j word) in
           let leaves = leaves-append (take j word) (drop j word) in
           let leaves_whole = ap leaves_in (take-append-drop j word) in
-          omega (arith, h.sum, h.fronts j q);
+          omega (arith, h.sum, h.prefixes j q);
     }
 
 -- the trees are those that the words tell
@@ -122,14 +122,14 @@ take-past (x ∷ v) w zero q = absurd (omega arith)
 take-past (x ∷ v) w (suc k) q =
     ap (λ (u : List Bool). x ∷ u) (take-past v w k (omega arith)) ∙ ap (λ (n : ℕ). x ∷ (v ++ take n w)) (omega arith)
 
-fronts-shape : (t : Tree) (k : ℕ) → k < length (shape_of t) → leaves_in (take k (shape_of t)) ≤ forks_in (take k (shape_of t))
-fronts-shape (leaf m) zero q = omega arith
-fronts-shape (leaf m) (suc k) q = absurd (omega arith)
-fronts-shape (fork l r) zero q = omega arith
-fronts-shape (fork l r) (suc k) q =
+prefixes-shape : (t : Tree) (k : ℕ) → k < length (shape_of t) → leaves_in (take k (shape_of t)) ≤ forks_in (take k (shape_of t))
+prefixes-shape (leaf m) zero q = omega arith
+prefixes-shape (leaf m) (suc k) q = absurd (omega arith)
+prefixes-shape (fork l r) zero q = omega arith
+prefixes-shape (fork l r) (suc k) q =
     elim (cases_lt k (length (shape_of l))) [
       | inl i ↦ let same = take-append-le k (shape_of l) (shape_of r) (omega arith) in
-          omega (arith, ap leaves_in same, ap forks_in same, fronts-shape l k i)
+          omega (arith, ap leaves_in same, ap forks_in same, prefixes-shape l k i)
       | inr i ↦ let n = k - length (shape_of l) in
           let same = take-past (shape_of l) (shape_of r) k i in
           omega (
@@ -140,12 +140,12 @@ fronts-shape (fork l r) (suc k) q =
             forks-append (shape_of l) (take n (shape_of r)),
             leaves-shape l,
             forks-shape l,
-            fronts-shape r n (omega (arith, length-append (shape_of l) (shape_of r))),
+            prefixes-shape r n (omega (arith, length-append (shape_of l) (shape_of r))),
           )
     ]
 
 pub shape-tree : (t : Tree) → IsShape (shape_of t)
-shape-tree t = record { sum = omega (arith, leaves-shape t, forks-shape t); fronts = fronts-shape t }
+shape-tree t = record { sum = omega (arith, leaves-shape t, forks-shape t); prefixes = prefixes-shape t }
 
 -- the words that a caller gives are those of a tree
 pub written-words : (word : List Bool) (labels : List ℕ) → IsShape word → forks_in word ≤ MAX_EDGES → IsPermutationList labels → length labels ≡ leaves_in word → IsWritten word labels

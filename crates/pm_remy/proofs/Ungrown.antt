@@ -16,12 +16,12 @@ unfolding ungrown
 length-ungrown zero t = refl
 length-ungrown (suc k) t = length_push (ungrown k (pruned (suc k) t)) (last_choice (suc k) t) ∙ omega (arith, length-ungrown k (pruned (suc k) t))
 
-grown_by-front : (xs ys : List ℕ) (k : ℕ) → k ≤ length xs → grown_by (xs ++ ys) k ≡ grown_by xs k
-grown_by-front xs ys zero q = grown_by-zero (xs ++ ys) ∙ sym (grown_by-zero xs)
-grown_by-front xs ys (suc k) q =
+grown_by-prefix : (xs ys : List ℕ) (k : ℕ) → k ≤ length xs → grown_by (xs ++ ys) k ≡ grown_by xs k
+grown_by-prefix xs ys zero q = grown_by-zero (xs ++ ys) ∙ sym (grown_by-zero xs)
+grown_by-prefix xs ys (suc k) q =
     let same : slice_index (xs ++ ys) k ≡ slice_index xs k = get_or_append_left xs ys 0 k (omega arith) in
     grown_by-suc (xs ++ ys) k
-    ∙ (ap₂ (λ (x : ℕ) (t : Tree). grafted (x / 2) (x % 2) (suc k) t) same (grown_by-front xs ys k (omega arith)) ∙ sym (grown_by-suc xs k))
+    ∙ (ap₂ (λ (x : ℕ) (t : Tree). grafted (x / 2) (x % 2) (suc k) t) same (grown_by-prefix xs ys k (omega arith)) ∙ sym (grown_by-suc xs k))
 
 -- a tree with the one label 0 is the leaf 0
 counted-one : (t : Tree) → IsCounted 1 t → t ≡ leaf 0
@@ -54,7 +54,7 @@ regrows-more k c a s t xs e counted g is rest =
       ];
       grows = grown_by-suc (xs ++ c ∷ []) k
           ∙ (ap₂ (λ (x y : ℕ). grafted x y (suc k) (grown_by (xs ++ c ∷ []) k)) half rem
-          ∙ (ap (grafted a s (suc k)) (grown_by-front xs (c ∷ []) k (omega arith) ∙ rest.grows) ∙ g.regrows));
+          ∙ (ap (grafted a s (suc k)) (grown_by-prefix xs (c ∷ []) k (omega arith) ∙ rest.grows) ∙ g.regrows));
     }
 
 regrows : (k : ℕ) (t : Tree) → IsCounted (suc k) t → Regrows k t (ungrown k t)

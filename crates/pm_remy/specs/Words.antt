@@ -18,10 +18,10 @@ leaves_in [] = 0
 leaves_in (true ∷ word) = leaves_in word
 leaves_in (false ∷ word) = suc (leaves_in word)
 
--- the word of a tree in preorder: it has one leaf more than forks, and no proper front has more leaves than forks
+-- the word of a tree in preorder: it has one leaf more than forks, and no proper prefix has more leaves than forks
 pub record IsShape (word : List Bool) : Type 0 where
   pub sum : leaves_in word ≡ suc (forks_in word)
-  pub fronts : (k : ℕ) → k < length word → leaves_in (take k word) ≤ forks_in (take k word)
+  pub prefixes : (k : ℕ) → k < length word → leaves_in (take k word) ≤ forks_in (take k word)
 
 -- the first two trees as the sides of one fork
 abbrev pub joined : List Tree → List Tree

@@ -1,4 +1,4 @@
--- The number at the front of bytes: the digits up to the first byte that is none.
+-- The number at the prefix of bytes: the digits up to the first byte that is none.
 use Rattle.std.proofs.Common.{◌≡◌, ℕ, ◌+◌, ◌*◌, ◌-◌, ◌<◌, ◌≤◌, ◌^◌, List, [], ◌∷◌, ◌++◌, length, take, get_or, refl, sym, ap, ◌∙◌, subst, inl, inr, arith, length-append}
 use Rattle.std.specs.Prelude.{decimal}
 use Rattle.std.specs.Int.{IsInRange}
@@ -11,9 +11,9 @@ use Rattle.std.proofs.lemmas.Str.Parse.{digit_at}
 use Rattle.pm_text.specs.Numeral.{IsNumber, HasDigit, IsLeadingNumber, ReadsDigits}
 use Rattle.pm_text.proofs.NumeralLemmas.{IsRead, one_more_digit, next_value, number_is_unique, decimal_is_number}
 
--- a digit of the front is a digit of the bytes
-front_digit : (bytes : List ℕ) (count place : ℕ) → count ≤ length bytes → AllDigits 10 (take count bytes) → place < count → HasDigit bytes place
-front_digit bytes count place within digits less =
+-- a digit of the prefix is a digit of the bytes
+prefix_digit : (bytes : List ℕ) (count place : ℕ) → count ≤ length bytes → AllDigits 10 (take count bytes) → place < count → HasDigit bytes place
+prefix_digit bytes count place within digits less =
     let inside : place < length (take count bytes) = omega (arith, length-take-le count bytes within) in
     record { within = omega arith; digit = subst (IsInRange 48 57) (get_or-take count bytes place 0 less) (digit_at (take count bytes) place digits inside) }
 
@@ -24,7 +24,7 @@ leading_goes_on bytes place number count within digits here is =
       | inl less ↦ less
       | inr past ↦ elim (cases_eq count place) [
         | inl same ↦ absurd (is.ends (subst (HasDigit bytes) (sym same) here))
-        | inr before ↦ absurd (is.ends (front_digit bytes place count within digits (omega (arith, past, before))))
+        | inr before ↦ absurd (is.ends (prefix_digit bytes place count within digits (omega (arith, past, before))))
       ]
     ]
 
@@ -32,10 +32,10 @@ leading_goes_on bytes place number count within digits here is =
 pub leading_ends : (bytes : List ℕ) (place number count : ℕ) → place ≤ length bytes → AllDigits 10 (take place bytes) → (HasDigit bytes place → ⊥) → IsLeadingNumber bytes number count → count ≡ place
 leading_ends bytes place number count within digits none is =
     elim (cases_lt count place) [
-      | inl before ↦ absurd (is.ends (front_digit bytes place count within digits before))
+      | inl before ↦ absurd (is.ends (prefix_digit bytes place count within digits before))
       | inr past ↦ elim (cases_eq count place) [
         | inl same ↦ same
-        | inr more ↦ absurd (none (front_digit bytes count place is.within is.word.numeral.1 (omega (arith, past, more))))
+        | inr more ↦ absurd (none (prefix_digit bytes count place is.within is.word.numeral.1 (omega (arith, past, more))))
       ]
     ]
 
@@ -69,11 +69,11 @@ pub leading_fits : (bytes : List ℕ) (place value number count : ℕ) → Reads
 leading_fits bytes place value number count read here is =
     let less : place < count = leading_goes_on bytes place number count read.within read.digits here is in
     let word : List ℕ = take count bytes in
-    let front : take place word ≡ take place bytes = take-take place count bytes (omega arith) in
+    let prefix : take place word ≡ take place bytes = take-take place count bytes (omega arith) in
     let same : get_or word place 0 ≡ get_or bytes place 0 = get_or-take count bytes place 0 less in
     let read_word : IsRead word place value = record {
-      digits = subst (AllDigits 10) (sym front) read.digits;
-      value_is = read.value_is ∙ ap (digits_value 10) (sym front);
+      digits = subst (AllDigits 10) (sym prefix) read.digits;
+      value_is = read.value_is ∙ ap (digits_value 10) (sym prefix);
     } in
     let most = next_value word place value (omega (arith, length-take-le count bytes is.within)) read_word (subst (IsInRange 48 57) (sym same) here.digit) in
     omega (arith, most, ap (λ b. b - 48) same, is.word.value, is.word.fits)

@@ -1,4 +1,4 @@
--- How a file falls into lines, piece by piece from the front.
+-- How a file falls into lines, piece by piece from the prefix.
 use Rattle.std.proofs.Common.{◌≡◌, ◌≢◌, ℕ, zero, suc, ◌+◌, ◌≤◌, false, eqb, List, [], ◌∷◌, ◌++◌, length, take, drop, refl, sym, ap, ◌∙◌, subst, ◌⊎◌, inl, inr, append_assoc, length-append, arith}
 use Rattle.std.specs.List.{onto_first, concat}
 use Rattle.std.proofs.lemmas.Bool.{ne_eqb, eqb-true, cases_Bool, eqb-false}
@@ -20,8 +20,8 @@ HasNoNewline-head byte text h = All-head (λ b. b ≢ newline) byte text h.each
 pub HasNoNewline-tail : (byte : ℕ) (text : List ℕ) → HasNoNewline (byte ∷ text) → HasNoNewline text
 HasNoNewline-tail byte text h = record { each = All-tail (λ b. b ≢ newline) byte text h.each }
 
-pub HasNoNewline-append : (front back : List ℕ) → HasNoNewline front → HasNoNewline back → HasNoNewline (front ++ back)
-HasNoNewline-append front back f b = record { each = All-append (λ b. b ≢ newline) front back f.each b.each }
+pub HasNoNewline-append : (prefix back : List ℕ) → HasNoNewline prefix → HasNoNewline back → HasNoNewline (prefix ++ back)
+HasNoNewline-append prefix back f b = record { each = All-append (λ b. b ≢ newline) prefix back f.each b.each }
 
 -- a line that ends is the first piece, and the rest falls into lines by itself
 pub lines-append_line : (text rest : List ℕ) → HasNoNewline text → lines (text ++ newline ∷ rest) ≡ (text ++ newline ∷ []) ∷ lines rest
@@ -61,17 +61,17 @@ concat-lines_and_end bytes = rw (concat-append, concat-lines bytes, append-nil) 
 pub record IsWholeLines (count : ℕ) (bytes : List ℕ) : Type 0 where
   pub pieces : List (List ℕ)
   pub length_pieces : length pieces ≡ count
-  pub in_front : (rest : List ℕ) → lines (bytes ++ rest) ≡ pieces ++ lines rest
+  pub in_prefix : (rest : List ℕ) → lines (bytes ++ rest) ≡ pieces ++ lines rest
 
 pub no_whole_lines : IsWholeLines 0 []
-no_whole_lines = record { pieces = []; length_pieces = refl; in_front = λ rest. refl }
+no_whole_lines = record { pieces = []; length_pieces = refl; in_prefix = λ rest. refl }
 
 pub one_more_whole_line : (count : ℕ) (bytes text : List ℕ) → IsWholeLines count bytes → HasNoNewline text → IsWholeLines (count + 1) (bytes ++ (text ++ newline ∷ []))
 one_more_whole_line count bytes text whole h = record {
   pieces = whole.pieces ++ (text ++ newline ∷ []) ∷ [];
   length_pieces = rw (length-append, whole.length_pieces) refl;
-  in_front = λ rest.
-      rw (append_assoc bytes (text ++ newline ∷ []) rest, append_assoc text (newline ∷ []) rest, whole.in_front (text ++ newline ∷ rest), lines-append_line text rest h, append_assoc whole.pieces ((text ++ newline ∷ []) ∷ []) (lines rest)) refl;
+  in_prefix = λ rest.
+      rw (append_assoc bytes (text ++ newline ∷ []) rest, append_assoc text (newline ∷ []) rest, whole.in_prefix (text ++ newline ∷ rest), lines-append_line text rest h, append_assoc whole.pieces ((text ++ newline ∷ []) ∷ []) (lines rest)) refl;
 }
 
 pub one_whole_line : (text : List ℕ) → HasNoNewline text → IsWholeLines 1 (text ++ newline ∷ [])
@@ -79,7 +79,7 @@ one_whole_line text h = one_more_whole_line 0 [] text no_whole_lines h
 
 -- the pieces of a file that begins with whole lines
 pub lines_and_end-whole : (count : ℕ) (bytes rest : List ℕ) → (whole : IsWholeLines count bytes) → lines_and_end (bytes ++ rest) ≡ whole.pieces ++ lines_and_end rest
-lines_and_end-whole count bytes rest whole = rw (whole.in_front rest, append_assoc whole.pieces (lines rest) ([] ∷ [])) refl
+lines_and_end-whole count bytes rest whole = rw (whole.in_prefix rest, append_assoc whole.pieces (lines rest) ([] ∷ [])) refl
 
 -- two files that begin with the same whole lines have the same first lines, up to these
 pub first_lines-whole : (count : ℕ) (bytes one other : List ℕ) (fewer : ℕ) → IsWholeLines count bytes → fewer ≤ count → first_lines fewer (bytes ++ one) ≡ first_lines fewer (bytes ++ other)
@@ -94,8 +94,8 @@ first_lines-past count more bytes rest whole =
 
 pub concat-pieces : (count : ℕ) (bytes : List ℕ) → (whole : IsWholeLines count bytes) → concat whole.pieces ≡ bytes
 concat-pieces count bytes whole =
-    let front = ap lines (sym (append-nil bytes)) ∙ whole.in_front [] ∙ append-nil whole.pieces in
-    sym (ap concat front) ∙ concat-lines bytes
+    let prefix = ap lines (sym (append-nil bytes)) ∙ whole.in_prefix [] ∙ append-nil whole.pieces in
+    sym (ap concat prefix) ∙ concat-lines bytes
 
 take-take : (n m : ℕ) (l : List (List ℕ)) → n ≤ m → take n (take m l) ≡ take n l
 take-take zero m l le = refl
@@ -117,13 +117,13 @@ pub record GoesOn (bytes file : List ℕ) : Type 0 where
 pub begins_with_whole_lines : (count : ℕ) (bytes rest file : List ℕ) → IsWholeLines count bytes → first_lines count file ≡ first_lines count (bytes ++ rest) → GoesOn bytes file
 begins_with_whole_lines count bytes rest file whole same =
     let all = lines_and_end file in
-    let front : take count all ≡ whole.pieces =
+    let prefix : take count all ≡ whole.pieces =
     same ∙ (rw (lines_and_end-whole count bytes rest whole, ← whole.length_pieces, take-append_seam) refl) in
     let joined : file ≡ concat (take count all ++ drop count all) =
     rw (take-append-drop) (sym (concat-lines_and_end file)) in
     record {
       tail = concat (drop count all);
-      whole = joined ∙ concat-append (take count all) (drop count all) ∙ ap (λ ls. concat ls ++ concat (drop count all)) front ∙ ap (λ bs. bs ++ concat (drop count all)) (concat-pieces count bytes whole);
+      whole = joined ∙ concat-append (take count all) (drop count all) ∙ ap (λ ls. concat ls ++ concat (drop count all)) prefix ∙ ap (λ bs. bs ++ concat (drop count all)) (concat-pieces count bytes whole);
     }
 
 -- of bytes with no newline, the first piece is the bytes, also where there are none

@@ -18,8 +18,8 @@ HasNoSpace-nil = record { each = All-nil (λ b. b ≢ 32) }
 pub HasNoSpace-cons : (byte : ℕ) (word : List ℕ) → byte ≢ 32 → HasNoSpace word → HasNoSpace (byte ∷ word)
 HasNoSpace-cons byte word ne h = record { each = All-cons (λ b. b ≢ 32) byte word ne h.each }
 
-pub HasNoSpace-append : (front back : List ℕ) → HasNoSpace front → HasNoSpace back → HasNoSpace (front ++ back)
-HasNoSpace-append front back f b = record { each = All-append (λ b. b ≢ 32) front back f.each b.each }
+pub HasNoSpace-append : (prefix back : List ℕ) → HasNoSpace prefix → HasNoSpace back → HasNoSpace (prefix ++ back)
+HasNoSpace-append prefix back f b = record { each = All-append (λ b. b ≢ 32) prefix back f.each b.each }
 
 -- no space stands before a place
 pub HasNoSpace-take : (bytes : List ℕ) (place : ℕ) → place ≤ length bytes → ((k : ℕ) → k < place → get_or bytes k 0 ≢ 32) → HasNoSpace (take place bytes)

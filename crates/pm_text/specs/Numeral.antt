@@ -20,7 +20,7 @@ pub record HasDigit (bytes : List ℕ) (place : ℕ) : Type 0 where
   pub within : place < length bytes
   pub digit : IsInRange 48 57 (slice_index bytes place)
 
--- so many bytes at the front are digits, and they write this number
+-- so many bytes at the prefix are digits, and they write this number
 pub record ReadsDigits (bytes : List ℕ) (count value : ℕ) : Type 0 where
   pub within : count ≤ length bytes
   pub digits : AllDigits 10 (take count bytes)
@@ -32,7 +32,7 @@ pub record AreLeadingDigits (bytes : List ℕ) (value count : ℕ) : Type 0 wher
   pub read : ReadsDigits bytes count value
   pub ends : ¬ HasDigit bytes count
 
--- so many bytes at the front spell the number, and no digit stands after them
+-- so many bytes at the prefix spell the number, and no digit stands after them
 pub record IsLeadingNumber (bytes : List ℕ) (number count : ℕ) : Type 0 where
   pub within : count ≤ length bytes
   pub word : IsNumber (take count bytes) number

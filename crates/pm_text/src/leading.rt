@@ -1,11 +1,11 @@
-//! Numbers at the front of a text.
+//! Numbers at the prefix of a text.
 ghost use Rattle.std.specs.Prelude.{◌≡◌, ℕ, ◌+◌, ◌≤◌, length, slice_index, MatchOption};
 ghost use Rattle.pm_text.specs.Numeral.{AreLeadingDigits, HasDigit, IsLeadingNumber, ReadsDigits};
 
 // So many digits write a number of 64 bits, whatever they are.
 const SAFE_DIGITS: usize = 19;
 
-/// A number at the front of a text.
+/// A number at the prefix of a text.
 #[derive(Clone, Copy, Debug, PartialEq, Eq)]
 pub struct LeadingNumber {
     /// The number.
@@ -14,7 +14,7 @@ pub struct LeadingNumber {
     pub length: usize,
 }
 
-/// The number that the digits at the front of `bytes` spell, up to the first byte that is no digit, where they spell one of
+/// The number that the digits at the prefix of `bytes` spell, up to the first byte that is no digit, where they spell one of
 /// at most [`u64::MAX`] without a leading zero. `None` exactly elsewhere.
 pub fn leading_number(bytes: &[u8]) -> Option<LeadingNumber>
     ensures { MatchOption result ((value count : ℕ) → ¬ IsLeadingNumber bytes.now value count)
@@ -27,19 +27,19 @@ pub fn leading_number(bytes: &[u8]) -> Option<LeadingNumber>
     Some(number)
 }
 
-// What the digits at the front write, where it fits; they may be none, and begin with a zero.
+// What the digits at the prefix write, where it fits; they may be none, and begin with a zero.
 fn leading_digits(bytes: &[u8]) -> Option<LeadingNumber>
     ensures { MatchOption result ((value count : ℕ) → ¬ IsLeadingNumber bytes.now value count)
         (λ number. AreLeadingDigits bytes.now number.value number.length) }
 {
-    let front = few_digits(&bytes[..bytes.len().min(SAFE_DIGITS)]);
-    if front.length < SAFE_DIGITS {
-        return Some(front);
+    let prefix = few_digits(&bytes[..bytes.len().min(SAFE_DIGITS)]);
+    if prefix.length < SAFE_DIGITS {
+        return Some(prefix);
     }
-    more_digits(bytes, front)
+    more_digits(bytes, prefix)
 }
 
-// What the digits at the front of so few bytes write. It needs no test for what is too great.
+// What the digits at the prefix of so few bytes write. It needs no test for what is too great.
 fn few_digits(bytes: &[u8]) -> LeadingNumber
     requires { length bytes.now ≤ SAFE_DIGITS }
     ensures { AreLeadingDigits bytes.now result.value result.length }
@@ -53,14 +53,14 @@ fn few_digits(bytes: &[u8]) -> LeadingNumber
     LeadingNumber { value, length }
 }
 
-// What the digits at the front write, where the first of them are read, and where it fits.
-fn more_digits(bytes: &[u8], front: LeadingNumber) -> Option<LeadingNumber>
-    requires { ReadsDigits bytes.now front.length front.value }
+// What the digits at the prefix write, where the first of them are read, and where it fits.
+fn more_digits(bytes: &[u8], prefix: LeadingNumber) -> Option<LeadingNumber>
+    requires { ReadsDigits bytes.now prefix.length prefix.value }
     ensures { MatchOption result ((value count : ℕ) → ¬ IsLeadingNumber bytes.now value count)
         (λ number. AreLeadingDigits bytes.now number.value number.length) }
 {
-    let mut value = front.value;
-    let mut length = front.length;
+    let mut value = prefix.value;
+    let mut length = prefix.length;
     'digits: while let Some(digit) = digit_at(bytes, length) {
         value = value.checked_mul(10)?.checked_add(u64::from(digit))?;
         length += 1;

@@ -25,7 +25,7 @@ fn numbers(rt: HostRuntime) {
 }
 
 #[test]
-fn numbers_at_the_front(rt: HostRuntime) {
+fn numbers_at_the_prefix(rt: HostRuntime) {
     let rows: [(&[u8], Option<(u64, usize)>); 10] = [
         (b"0", Some((0, 1))),
         (b"0 7", Some((0, 1))),

@@ -36,10 +36,10 @@ module _ (count total : ℕ → ℕ) (total_more : (d : ℕ) → total (suc d) �
       let g = ap total f in
       omega (arith, g, h)
 
-  front_sum : (pairs : List (ℕ × ℕ)) (k : ℕ) → AreCounted count pairs → k ≤ length pairs → degree_sum (take k pairs) ≤ total (suc (degree_before pairs k))
-  front_sum pairs zero a l = omega arith
-  front_sum pairs (suc k) a l =
-      let h = front_sum pairs k a (omega arith) in
+  prefix_sum : (pairs : List (ℕ × ℕ)) (k : ℕ) → AreCounted count pairs → k ≤ length pairs → degree_sum (take k pairs) ≤ total (suc (degree_before pairs k))
+  prefix_sum pairs zero a l = omega arith
+  prefix_sum pairs (suc k) a l =
+      let h = prefix_sum pairs k a (omega arith) in
       let m : k < length pairs = omega arith in
       let r = a.rising k m in
       let u = total_up (suc (degree_before pairs k)) (pair_at pairs k).0 (omega arith) in
@@ -51,7 +51,7 @@ module _ (count total : ℕ → ℕ) (total_more : (d : ℕ) → total (suc d) �
 
   pub sum_bounded : (pairs : List (ℕ × ℕ)) (most : ℕ) → AreCounted count pairs → ((d : ℕ) → total d ≤ most) → degree_sum pairs ≤ most
   sum_bounded pairs most a few =
-      let h = front_sum pairs (length pairs) a (omega arith) in
+      let h = prefix_sum pairs (length pairs) a (omega arith) in
       let b = few (suc (degree_before pairs (length pairs))) in
       let c = ap degree_sum (take_all (length pairs) pairs (omega arith)) in
       omega (arith, h, b, c)

@@ -24,7 +24,7 @@ module _ (places : List ℕ) (w : IsFalling places) (counts : List ℤ) (b : IsR
         | inr s ↦ one_down (b.each i l ∙ rw (eq-eqb (slice_index places (length places - suc i)) STEM (sym here ∙ s.stem)) refl) s
       ]
 
-  -- the height of a front of the counts is the rise of the walk behind it
+  -- the height of a prefix of the counts is the rise of the walk behind it
   back_height : (i : ℕ) → i ≤ length places → height counts i +ℤ pos (up places (length places - i) + down places (length places)) ≡ pos (up places (length places) + down places (length places - i))
   back_height zero l =
       let e : length places - 0 ≡ length places = omega arith in

@@ -28,7 +28,7 @@ pub record AreLeft (counts : List ℕ) (bits : List Bool) : Type 0 where
 good_next : (goal next : ℕ) (bit : ℤ) (xs : List ℤ) → pos goal +ℤ bit ≡ pos next → IsGood goal (bit ∷ xs) → IsGood next xs
 good_next goal next bit xs e g = record {
   sum = (let a = sum_of-cons bit xs in let s = g.sum in omega (arith, ints, a, s, e));
-  above = λ front l. (let a = sum_of-cons bit (take front xs) in let h = g.above (suc front) (omega (arith, l)) in omega (arith, ints, a, h, e));
+  above = λ prefix l. (let a = sum_of-cons bit (take prefix xs) in let h = g.above (suc prefix) (omega (arith, l)) in omega (arith, ints, a, h, e));
 }
 
 some_wanted : (count : ℕ) (above : List ℕ) → count ≤ 2 → 0 < wants (count ∷ above)
@@ -236,12 +236,12 @@ building_same bits i letters xs ys stems new e f building =
     let Q : List ℕ → Type 0 = λ zs. IsBuilding bits i letters (stems ∷ reverse zs) in
     subst P (sym e) (subst Q (sym f) building)
 
--- a bit in front of the last one
-pub front_bit : (bits : List Bool) (i : ℕ) (bit : Bool) → i < length (take (length bits - 1) bits) → get_or (take (length bits - 1) bits) i false ≡ bit → drop i bits ≡ bit ∷ drop (i + 1) bits
-front_bit bits i bit l e =
+-- a bit before the last one
+pub prefix_bit : (bits : List Bool) (i : ℕ) (bit : Bool) → i < length (take (length bits - 1) bits) → get_or (take (length bits - 1) bits) i false ≡ bit → drop i bits ≡ bit ∷ drop (i + 1) bits
+prefix_bit bits i bit l e =
     let a = length-take-le (length bits - 1) bits (omega arith) in
     let g = get_or-take (length bits - 1) bits i false (omega (arith, a, l)) in
     drop_more bits i false (omega (arith, a, l)) ∙ ap (λ (y : Bool). y ∷ drop (i + 1) bits) (sym g ∙ e)
 
-pub front_length : (bits : List Bool) → length (take (length bits - 1) bits) ≡ length bits - 1
-front_length bits = length-take-le (length bits - 1) bits (omega arith)
+pub prefix_length : (bits : List Bool) → length (take (length bits - 1) bits) ≡ length bits - 1
+prefix_length bits = length-take-le (length bits - 1) bits (omega arith)

@@ -191,28 +191,28 @@ reads_sum (count ∷ above) (x ∷ word) r =
     let c = reads_sum s.next word s.reads in
     omega (arith, ints, a, b, c, w)
 
-take_next : (bit : ℤ) (xs : List ℤ) (front : ℕ) → take (suc front) (bit ∷ xs) ≡ bit ∷ take front xs
-take_next bit xs front = refl
+take_next : (bit : ℤ) (xs : List ℤ) (prefix : ℕ) → take (suc prefix) (bit ∷ xs) ≡ bit ∷ take prefix xs
+take_next bit xs prefix = refl
 
-reads_above : (counts word : List ℕ) (front : ℕ) → Reads counts word → front < length (weights word) → neg_ℤ (pos (wants counts)) <ℤ sum_of (take front (weights word))
+reads_above : (counts word : List ℕ) (prefix : ℕ) → Reads counts word → prefix < length (weights word) → neg_ℤ (pos (wants counts)) <ℤ sum_of (take prefix (weights word))
 reads_above counts [] zero r l =
     let a = ap wants r in
     let b = wants-cons 2 [] in
     let c = wants-none in
     omega (arith, ints, a, b, c)
-reads_above counts [] (suc front) r l = absurd (let a = ap (λ (xs : List ℤ). length xs) weights-none in omega (arith, a, l))
-reads_above [] (x ∷ word) front r l = absurd r
+reads_above counts [] (suc prefix) r l = absurd (let a = ap (λ (xs : List ℤ). length xs) weights-none in omega (arith, a, l))
+reads_above [] (x ∷ word) prefix r l = absurd r
 reads_above (count ∷ above) (x ∷ word) zero r l =
     let s = step count above x word r in
     let h = s.some in
     omega (arith, ints, h)
-reads_above (count ∷ above) (x ∷ word) (suc front) r l =
+reads_above (count ∷ above) (x ∷ word) (suc prefix) r l =
     let s = step count above x word r in
     let w = s.wanted in
     let long = ap (λ (xs : List ℤ). length xs) s.weights_next in
-    let h = reads_above s.next word front s.reads (omega (arith, long, l)) in
-    let a = ap (λ (xs : List ℤ). sum_of (take (suc front) xs)) s.weights_next in
-    let b = sum_of-cons s.bit (take front (weights word)) in
+    let h = reads_above s.next word prefix s.reads (omega (arith, long, l)) in
+    let a = ap (λ (xs : List ℤ). sum_of (take (suc prefix) xs)) s.weights_next in
+    let b = sum_of-cons s.bit (take prefix (weights word)) in
     omega (arith, ints, a, b, h, w)
 
 pub reads_good : (word : List ℕ) → Reads (1 ∷ []) word → IsGood 2 (map weight (bits_of word))
@@ -223,7 +223,7 @@ reads_good word r =
     let P : List ℤ → Type 0 = λ xs. IsGood 2 xs in
     subst P e (record {
       sum = (let s = reads_sum (1 ∷ []) word r in omega (arith, ints, a, b, s));
-      above = λ front l. let h = reads_above (1 ∷ []) word front r l in omega (arith, ints, a, b, h);
+      above = λ prefix l. let h = reads_above (1 ∷ []) word prefix r l in omega (arith, ints, a, b, h);
     })
 
 -- four bits for each node that is opened, and one for each zero that is wanted

@@ -1,7 +1,7 @@
 pub mod BackCounts
 pub mod ClosingLaws
 mod CountsRead
-pub mod Fronts
+pub mod Prefixes
 pub mod HighCorners
 pub mod Meetings
 pub mod BitTrees

@@ -148,61 +148,61 @@ again_down places k =
     let c = count_below-same (λ i. is_stem places (length places + i)) (is_stem places) k (λ i l. ap (λ (x : ℕ). x == STEM) (letter_again places i)) in
     omega (arith, a, b, c)
 
--- the letters of a front, by letter
-record IsFront (places : List ℕ) (k : ℕ) : Type 0 where
+-- the letters of a prefix, by letter
+record IsPrefix (places : List ℕ) (k : ℕ) : Type 0 where
   ups : up places k ≡ seen OPEN places k + seen CLOSE places k
   downs : down places k ≡ seen STEM places k
 
-front_none : (places : List ℕ) → IsFront places 0
-front_none places = record {
+prefix_none : (places : List ℕ) → IsPrefix places 0
+prefix_none places = record {
   ups = omega (arith, up_none places, seen_none OPEN places, seen_none CLOSE places);
   downs = omega (arith, down_none places, seen_none STEM places);
 }
 
-module _ (places : List ℕ) (k : ℕ) (x : ℕ) (here : slice_index places k ≡ x) (same : letter places k ≡ x) (h : IsFront places k) where
+module _ (places : List ℕ) (k : ℕ) (x : ℕ) (here : slice_index places k ≡ x) (same : letter places k ≡ x) (h : IsPrefix places k) where
   not_here : (y : ℕ) → (x ≡ y → ⊥) → slice_index places k ≡ y → ⊥
   not_here y ne e = ne (sym here ∙ e)
 
-  front_open : x ≡ OPEN → IsFront places (suc k)
-  front_open e =
+  prefix_open : x ≡ OPEN → IsPrefix places (suc k)
+  prefix_open e =
       let step = side_step places k (inl (same ∙ e)) in
       let a = seen_yes OPEN places k (omega arith) (here ∙ e) in
       let b = seen_no CLOSE places k (not_here CLOSE (λ f. omega (arith, e, f))) in
       let c = seen_no STEM places k (not_here STEM (λ f. omega (arith, e, f))) in
       record { ups = omega (arith, a, b, h.ups, step.more); downs = omega (arith, c, h.downs, step.same) }
 
-  front_close : x ≡ CLOSE → IsFront places (suc k)
-  front_close e =
+  prefix_close : x ≡ CLOSE → IsPrefix places (suc k)
+  prefix_close e =
       let step = side_step places k (inr (same ∙ e)) in
       let a = seen_yes CLOSE places k (omega arith) (here ∙ e) in
       let b = seen_no OPEN places k (not_here OPEN (λ f. omega (arith, e, f))) in
       let c = seen_no STEM places k (not_here STEM (λ f. omega (arith, e, f))) in
       record { ups = omega (arith, a, b, h.ups, step.more); downs = omega (arith, c, h.downs, step.same) }
 
-  front_stem : x ≡ STEM → IsFront places (suc k)
-  front_stem e =
+  prefix_stem : x ≡ STEM → IsPrefix places (suc k)
+  prefix_stem e =
       let step = stem_step places k (same ∙ e) in
       let a = seen_yes STEM places k (omega arith) (here ∙ e) in
       let b = seen_no OPEN places k (not_here OPEN (λ f. omega (arith, e, f))) in
       let c = seen_no CLOSE places k (not_here CLOSE (λ f. omega (arith, e, f))) in
       record { ups = omega (arith, b, c, h.ups, step.same); downs = omega (arith, a, h.downs, step.more) }
 
-fronts : (word : List ℕ) → IsInOrder word → (k : ℕ) → k ≤ length (contour word) → IsFront (contour word) k
-fronts word order zero l = front_none (contour word)
-fronts word order (suc k) l =
-    let before = fronts word order k (omega arith) in
+prefixes : (word : List ℕ) → IsInOrder word → (k : ℕ) → k ≤ length (contour word) → IsPrefix (contour word) k
+prefixes word order zero l = prefix_none (contour word)
+prefixes word order (suc k) l =
+    let before = prefixes word order k (omega arith) in
     let same : letter (contour word) k ≡ slice_index (contour word) k = ap (slice_index (contour word)) (mod_stays k (length (contour word)) (omega arith)) in
     elim (cases_eq (slice_index (contour word) k) OPEN) [
-      | inl e ↦ front_open (contour word) k (slice_index (contour word) k) refl same before e
+      | inl e ↦ prefix_open (contour word) k (slice_index (contour word) k) refl same before e
       | inr a ↦ elim (cases_eq (slice_index (contour word) k) CLOSE) [
-        | inl e ↦ front_close (contour word) k (slice_index (contour word) k) refl same before e
-        | inr b ↦ front_stem (contour word) k (slice_index (contour word) k) refl same before (three_letters word k order (omega arith) (record { not_open = a; not_close = b }))
+        | inl e ↦ prefix_close (contour word) k (slice_index (contour word) k) refl same before e
+        | inr b ↦ prefix_stem (contour word) k (slice_index (contour word) k) refl same before (three_letters word k order (omega arith) (record { not_open = a; not_close = b }))
       ]
     ]
 
 pub tree_falls : (word : List ℕ) → IsStemTree word → IsFalling (contour word)
 tree_falls word t =
-    let whole = fronts word t.in_order (length (contour word)) (omega arith) in
+    let whole = prefixes word t.in_order (length (contour word)) (omega arith) in
     let stems = stems_count word t in
     let s = seen_all STEM (omega arith) (contour word) in
     let o = seen_all OPEN (omega arith) (contour word) in

@@ -232,8 +232,8 @@ brackets_step k above x word r =
       ]
     ]
 
-tally_front : (letter x : ℕ) (xs : List ℕ) → tally letter (x ∷ xs) ≡ tally letter (x ∷ []) + tally letter xs
-tally_front letter x xs = elim (cases_eq x letter) [
+tally_prefix : (letter x : ℕ) (xs : List ℕ) → tally letter (x ∷ xs) ≡ tally letter (x ∷ []) + tally letter xs
+tally_prefix letter x xs = elim (cases_eq x letter) [
   | inl e ↦ let a = tally_yes letter x xs e in let b = tally_yes letter x [] e in let c = tally-nil letter in omega (arith, a, b, c)
   | inr e ↦ let a = tally_no letter x xs e in let b = tally_no letter x [] e in let c = tally-nil letter in omega (arith, a, b, c)
 ]
@@ -250,8 +250,8 @@ reads_equal (k ∷ above) (x ∷ word) r =
     let s = brackets_step k above x word r in
     let h = reads_equal s.0 word s.1.reads in
     let c = s.1.changes in
-    let p = tally_front OPEN x word in
-    let q = tally_front CLOSE x word in
+    let p = tally_prefix OPEN x word in
+    let q = tally_prefix CLOSE x word in
     omega (arith, h, c, p, q)
 
 reads_never : (counts word : List ℕ) (n : ℕ) → Reads counts word → suc (tally CLOSE (take n word)) ≤ tally OPEN (take n word) + length counts
@@ -262,8 +262,8 @@ reads_never (k ∷ above) (x ∷ word) (suc n) r =
     let s = brackets_step k above x word r in
     let h = reads_never s.0 word n s.1.reads in
     let c = s.1.changes in
-    let p = tally_front OPEN x (take n word) in
-    let q = tally_front CLOSE x (take n word) in
+    let p = tally_prefix OPEN x (take n word) in
+    let q = tally_prefix CLOSE x (take n word) in
     omega (arith, h, c, p, q)
 
 reads_matched : (word : List ℕ) → Reads (1 ∷ []) word → IsMatched word

@@ -20,6 +20,6 @@ abbrev pub RunStartBalances : Type 0
 RunStartBalances = (word : List ℕ) (stem : ℕ) (replanted : List ℕ) → IsStemTree word → (r : IsReplanted word stem replanted)
     → (IsBalanced (contour replanted) ↔ IsRunStart (contour word) r.start)
 
--- a tree is balanced where its last letter is a stem and no front of its contour has more sides than stems
+-- a tree is balanced where its last letter is a stem and no prefix of its contour has more sides than stems
 abbrev pub BalancedIsBelow : Type 0
 BalancedIsBelow = (word : List ℕ) → IsStemTree word → (IsBalanced (contour word) ↔ IsBelow (contour word))

@@ -55,7 +55,7 @@ pub record AreRunStarts (places : List ℕ) (first second : ℕ) : Type 0 where
   pub second_is : IsRunStart places second
   pub no_third : (stem : ℕ) → IsRunStart places stem → (stem ≡ first) ⊎ (stem ≡ second)
 
--- no front of the contour has more sides than stems, and its last letter is a stem
+-- no prefix of the contour has more sides than stems, and its last letter is a stem
 pub record IsBelow (places : List ℕ) : Type 0 where
-  pub fronts : (k : ℕ) → k ≤ length places → sides places 0 k ≤ stem_steps places 0 k
+  pub prefixes : (k : ℕ) → k ≤ length places → sides places 0 k ≤ stem_steps places 0 k
   pub last : (k : ℕ) → suc k ≡ length places → slice_index places k ≡ STEM

@@ -1,4 +1,4 @@
--- The cycle lemma: the fronts of a word one after another, as far as its end.
+-- The cycle lemma: the prefixes of a word one after another, as far as its end.
 use Rattle.std.proofs.Common.{◌≡◌, ℕ, zero, suc, ◌+◌, ◌<◌, ◌≤◌, List, [], ◌∷◌, ◌++◌, length, refl, subst, arith, true, false, inl, inr, pos, ◌+ℤ◌, ◌≤ℤ◌, ℤ}
 use Rattle.std.specs.Prelude.{◌<ℤ◌, Bool, ◌⊎◌}
 use lib.Signed.{lt_z}
@@ -15,49 +15,49 @@ decided first second false is = inr (not_less_from_test first second is)
 cases_less : (first second : ℤ) → (first <ℤ second) ⊎ (second ≤ℤ first)
 cases_less first second = decided first second (lt_z first second) refl
 
--- the lowest height of the first fronts
-lowest_to : (word : List ℤ) → 0 < length word → (front : ℕ) → front ≤ length word → (lowest : ℤ) × IsLowestTo word front lowest
+-- the lowest height of the first prefixes
+lowest_to : (word : List ℤ) → 0 < length word → (prefix : ℕ) → prefix ≤ length word → (lowest : ℤ) × IsLowestTo word prefix lowest
 lowest_to word some zero within = (pos 0, IsLowestTo-none word some)
-lowest_to word some (suc front) within =
-    let before : (lowest : ℤ) × IsLowestTo word front lowest = lowest_to word some front (omega arith) in
-    let more : front + 1 ≡ suc front = omega arith in
+lowest_to word some (suc prefix) within =
+    let before : (lowest : ℤ) × IsLowestTo word prefix lowest = lowest_to word some prefix (omega arith) in
+    let more : prefix + 1 ≡ suc prefix = omega arith in
     subst (λ (n : ℕ). (lowest : ℤ) × IsLowestTo word n lowest) more
-    (elim (cases_less (height word front) before.0) [
-      | inl lower ↦ (height word front, IsLowestTo-lower word front before.0 (height word front) before.1 refl (omega arith) lower)
-      | inr higher ↦ (before.0, IsLowestTo-same word front before.0 (height word front) before.1 refl higher)
+    (elim (cases_less (height word prefix) before.0) [
+      | inl lower ↦ (height word prefix, IsLowestTo-lower word prefix before.0 (height word prefix) before.1 refl (omega arith) lower)
+      | inr higher ↦ (before.0, IsLowestTo-same word prefix before.0 (height word prefix) before.1 refl higher)
     ])
 
--- the records of the first fronts, with the least height that they reach
-record HaveRecords (word : List ℤ) (bound : ℤ) (front : ℕ) : Type 0 where
+-- the records of the first prefixes, with the least height that they reach
+record HaveRecords (word : List ℤ) (bound : ℤ) (prefix : ℕ) : Type 0 where
   least : ℤ
   starts : List ℕ
-  has : HasRecords word bound front least starts
+  has : HasRecords word bound prefix least starts
 
--- each front has its records
-records_to : (word : List ℤ) (bound : ℤ) → IsWord word → bound ≤ℤ pos 1 → (front : ℕ) → front ≤ length word → HaveRecords word bound front
+-- each prefix has its records
+records_to : (word : List ℤ) (bound : ℤ) → IsWord word → bound ≤ℤ pos 1 → (prefix : ℕ) → prefix ≤ length word → HaveRecords word bound prefix
 records_to word bound is_word low zero within = record { least = pos 1; starts = []; has = HasRecords-none word bound [] low refl }
-records_to word bound is_word low (suc front) within =
-    let before : HaveRecords word bound front = records_to word bound is_word low front (omega arith) in
-    let sum : ℤ = height word front in
-    let more : front + 1 ≡ suc front = omega arith in
+records_to word bound is_word low (suc prefix) within =
+    let before : HaveRecords word bound prefix = records_to word bound is_word low prefix (omega arith) in
+    let sum : ℤ = height word prefix in
+    let more : prefix + 1 ≡ suc prefix = omega arith in
     subst (HaveRecords word bound) more
     (elim (cases_less sum before.least) [
       | inl lower ↦ elim (cases_less sum bound) [
         | inl under ↦ record {
           least = sum;
-          starts = before.starts ++ front ∷ [];
-          has = HasRecords-push word bound front before.least sum before.starts before.has refl is_word (omega arith) lower under;
+          starts = before.starts ++ prefix ∷ [];
+          has = HasRecords-push word bound prefix before.least sum before.starts before.has refl is_word (omega arith) lower under;
         }
         | inr over ↦ record {
           least = sum;
           starts = before.starts;
-          has = HasRecords-high word bound front before.least sum before.starts before.has refl is_word (omega arith) lower over;
+          has = HasRecords-high word bound prefix before.least sum before.starts before.has refl is_word (omega arith) lower over;
         }
       ]
       | inr higher ↦ record {
         least = before.least;
         starts = before.starts;
-        has = HasRecords-same word bound front before.least sum before.starts before.has refl higher;
+        has = HasRecords-same word bound prefix before.least sum before.starts before.has refl higher;
       }
     ])
 

@@ -1,4 +1,4 @@
--- The sums of a word's fronts, and what they say of its good starts.
+-- The sums of a word's prefixes, and what they say of its good starts.
 use Rattle.std.proofs.Common.{◌≡◌, ℕ, zero, suc, ◌+◌, ◌-◌, ◌*◌, ◌<◌, ◌≤◌, List, [], ◌∷◌, ◌++◌, length, get_or, take, drop, refl, ap, sym, ◌∙◌, arith, true, false, inl, inr, length-append, fold, pos, negsuc, ◌+ℤ◌, neg_ℤ, ◌≤ℤ◌, ℤ}
 use Rattle.std.specs.Prelude.{◌<ℤ◌}
 use Rattle.std.proofs.lemmas.Int.{ints, to_z-of_z}
@@ -10,25 +10,25 @@ use Rattle.std.proofs.lemmas.List.{take-append-le, take-take, take_all, length-t
 use Rattle.std.proofs.lemmas.List.Sums.{fold_more, fold-append}
 use Rattle.pm_words.specs.Word.{sum_of, turned, IsWord, IsGoodStart, IsLowest}
 
--- the sum of the front of this length
+-- the sum of the prefix of this length
 unfoldable pub height : List ℤ → ℕ → ℤ
-height word front = sum_of (take front word)
+height word prefix = sum_of (take prefix word)
 
-pub height-is : (word : List ℤ) (front : ℕ) → height word front ≡ sum_of (take front word)
+pub height-is : (word : List ℤ) (prefix : ℕ) → height word prefix ≡ sum_of (take prefix word)
 unfolding height
-height-is word front = refl
+height-is word prefix = refl
 
 pub height-none : (word : List ℤ) → height word 0 ≡ pos 0
 unfolding height
 height-none word = refl
 
-pub height-more : (word : List ℤ) (front : ℕ) → front < length word → height word (front + 1) ≡ height word front +ℤ get_or word front (pos 0)
+pub height-more : (word : List ℤ) (prefix : ℕ) → prefix < length word → height word (prefix + 1) ≡ height word prefix +ℤ get_or word prefix (pos 0)
 unfolding height
-height-more word front inside = fold_more ◌+ℤ◌ (pos 0) word front (pos 0) inside
+height-more word prefix inside = fold_more ◌+ℤ◌ (pos 0) word prefix (pos 0) inside
 
-pub height-all : (word : List ℤ) (front : ℕ) → length word ≤ front → height word front ≡ sum_of word
+pub height-all : (word : List ℤ) (prefix : ℕ) → length word ≤ prefix → height word prefix ≡ sum_of word
 unfolding height
-height-all word front past = ap sum_of (take_all front word past)
+height-all word prefix past = ap sum_of (take_all prefix word past)
 
 -- a sum does not depend on where it begins
 sum_from : (start : ℤ) (word : List ℤ) → fold ◌+ℤ◌ start word ≡ start +ℤ sum_of word
@@ -38,10 +38,10 @@ sum_from start (letter ∷ later) =
     let there : fold ◌+ℤ◌ (pos 0 +ℤ letter) later ≡ (pos 0 +ℤ letter) +ℤ sum_of later = sum_from (pos 0 +ℤ letter) later in
     omega (arith, ints, here, there)
 
-pub sum_of-append : (front back : List ℤ) → sum_of (front ++ back) ≡ sum_of front +ℤ sum_of back
-sum_of-append front back = fold-append ◌+ℤ◌ (pos 0) front back ∙ sum_from (sum_of front) back
+pub sum_of-append : (prefix back : List ℤ) → sum_of (prefix ++ back) ≡ sum_of prefix +ℤ sum_of back
+sum_of-append prefix back = fold-append ◌+ℤ◌ (pos 0) prefix back ∙ sum_from (sum_of prefix) back
 
--- the fronts of a turned word: those that end before the word's end
+-- the prefixes of a turned word: those that end before the word's end
 take_add : (start more : ℕ) (word : List ℤ) → take (start + more) word ≡ take start word ++ take more (drop start word)
 take_add zero more word = ap (λ n. take n word) (omega arith)
 take_add (suc start) more [] = take_all _ [] (omega arith) ∙ sym (take_all more [] (omega arith))
@@ -53,30 +53,30 @@ height-part : (start more : ℕ) (word : List ℤ) → height word (start + more
 height-part start more word =
     height-is word (start + more) ∙ ap sum_of (take_add start more word) ∙ sum_of-append (take start word) (take more (drop start word)) ∙ ap (λ h. h +ℤ sum_of (take more (drop start word))) (sym (height-is word start))
 
-pub turned-front : (start front : ℕ) (word : List ℤ) → start + front ≤ length word → height (turned start word) front +ℤ height word start ≡ height word (start + front)
-turned-front start front word within =
+pub turned-prefix : (start prefix : ℕ) (word : List ℤ) → start + prefix ≤ length word → height (turned start word) prefix +ℤ height word start ≡ height word (start + prefix)
+turned-prefix start prefix word within =
     let long = length-drop start word in
-    let is : height (turned start word) front ≡ sum_of (take front (drop start word)) = height-is (turned start word) front ∙ ap sum_of (take-append-le front (drop start word) (take start word) (omega (arith, long))) in
-    omega (arith, ints, is, height-part start front word)
+    let is : height (turned start word) prefix ≡ sum_of (take prefix (drop start word)) = height-is (turned start word) prefix ∙ ap sum_of (take-append-le prefix (drop start word) (take start word) (omega (arith, long))) in
+    omega (arith, ints, is, height-part start prefix word)
 
-take_past : (front : ℕ) (first second : List ℤ) → take (length first + front) (first ++ second) ≡ first ++ take front second
-take_past front [] second = ap (λ n. take n second) (omega arith)
-take_past front (letter ∷ later) second =
-    let e : suc (length later) + front ≡ suc (length later + front) = omega arith in
-    ap (λ n. take n (letter ∷ (later ++ second))) e ∙ ap (λ t. letter ∷ t) (take_past front later second)
+take_past : (prefix : ℕ) (first second : List ℤ) → take (length first + prefix) (first ++ second) ≡ first ++ take prefix second
+take_past prefix [] second = ap (λ n. take n second) (omega arith)
+take_past prefix (letter ∷ later) second =
+    let e : suc (length later) + prefix ≡ suc (length later + prefix) = omega arith in
+    ap (λ n. take n (letter ∷ (later ++ second))) e ∙ ap (λ t. letter ∷ t) (take_past prefix later second)
 
 -- and those that come round to the word's beginning again
-pub turned-round : (start front : ℕ) (word : List ℤ) → start ≤ length word → front ≤ start → height (turned start word) ((length word - start) + front) +ℤ height word start ≡ sum_of word +ℤ height word front
-turned-round start front word start_within within =
+pub turned-round : (start prefix : ℕ) (word : List ℤ) → start ≤ length word → prefix ≤ start → height (turned start word) ((length word - start) + prefix) +ℤ height word start ≡ sum_of word +ℤ height word prefix
+turned-round start prefix word start_within within =
     let long : length (drop start word) ≡ length word - start = length-drop start word in
-    let fronts : take front (take start word) ≡ take front word = take-take front start word within in
-    let is : height (turned start word) ((length word - start) + front) ≡ sum_of (drop start word) +ℤ height word front =
-    height-is (turned start word) ((length word - start) + front)
-    ∙ ap (λ n. sum_of (take (n + front) (drop start word ++ take start word))) (sym long)
-    ∙ ap sum_of (take_past front (drop start word) (take start word))
-    ∙ sum_of-append (drop start word) (take front (take start word))
-    ∙ ap (λ t. sum_of (drop start word) +ℤ sum_of t) fronts
-    ∙ ap (λ h. sum_of (drop start word) +ℤ h) (sym (height-is word front)) in
+    let prefixes : take prefix (take start word) ≡ take prefix word = take-take prefix start word within in
+    let is : height (turned start word) ((length word - start) + prefix) ≡ sum_of (drop start word) +ℤ height word prefix =
+    height-is (turned start word) ((length word - start) + prefix)
+    ∙ ap (λ n. sum_of (take (n + prefix) (drop start word ++ take start word))) (sym long)
+    ∙ ap sum_of (take_past prefix (drop start word) (take start word))
+    ∙ sum_of-append (drop start word) (take prefix (take start word))
+    ∙ ap (λ t. sum_of (drop start word) +ℤ sum_of t) prefixes
+    ∙ ap (λ h. sum_of (drop start word) +ℤ h) (sym (height-is word prefix)) in
     let whole : sum_of word ≡ height word start +ℤ sum_of (drop start word) =
     ap sum_of (sym (take-append-drop start word)) ∙ sum_of-append (take start word) (drop start word) ∙ ap (λ h. h +ℤ sum_of (drop start word)) (sym (height-is word start)) in
     omega (arith, ints, is, whole)
@@ -99,20 +99,20 @@ IsGoodStart-from_low goal word start positive sum low = record {
         let long : (length word - start) + start ≡ length word = omega (arith, low.within) in
         let whole : height (turned start word) (length word) ≡ sum_of (turned start word) = height-all (turned start word) (length word) (omega (arith, length-turned start word (omega (arith, low.within)))) in
         omega (arith, ints, round, ap (height (turned start word)) long, whole, sum);
-    above = λ front inside.
+    above = λ prefix inside.
         let long : length (turned start word) ≡ length word = length-turned start word (omega (arith, low.within)) in
-        let is = height-is (turned start word) front in
-        elim (cases_lt (start + front) (length word)) [
-          | inl straight ↦ elim (cases_eq front 0) [
+        let is = height-is (turned start word) prefix in
+        elim (cases_lt (start + prefix) (length word)) [
+          | inl straight ↦ elim (cases_eq prefix 0) [
             | inl none ↦
-                let zero_is : height (turned start word) front ≡ pos 0 = ap (height (turned start word)) none ∙ height-none (turned start word) in
+                let zero_is : height (turned start word) prefix ≡ pos 0 = ap (height (turned start word)) none ∙ height-none (turned start word) in
                 omega (arith, ints, is, zero_is, positive)
-            | inr some ↦ omega (arith, ints, is, turned-front start front word (omega arith), low.after (start + front) (omega (arith, some)) straight)
+            | inr some ↦ omega (arith, ints, is, turned-prefix start prefix word (omega arith), low.after (start + prefix) (omega (arith, some)) straight)
           ]
           | inr past ↦
-              let split : (length word - start) + (front - (length word - start)) ≡ front = omega (arith, low.within) in
-              let round = turned-round start (front - (length word - start)) word (omega (arith, low.within)) (omega (arith, long, inside)) in
-              omega (arith, ints, is, round, ap (height (turned start word)) split, sum, low.before (front - (length word - start)) (omega (arith, long, inside, low.within)))
+              let split : (length word - start) + (prefix - (length word - start)) ≡ prefix = omega (arith, low.within) in
+              let round = turned-round start (prefix - (length word - start)) word (omega (arith, low.within)) (omega (arith, long, inside)) in
+              omega (arith, ints, is, round, ap (height (turned start word)) split, sum, low.before (prefix - (length word - start)) (omega (arith, long, inside, low.within)))
         ];
   };
 }
@@ -127,67 +127,67 @@ IsLow-from_good goal word start sum good_start =
           omega (arith, ints, round, sum, height-is (turned start word) ((length word - start) + place), good_start.good.above ((length word - start) + place) (omega (arith, long, good_start.within, earlier)));
       after = λ place later inside.
           let e : start + (place - start) ≡ place = omega arith in
-          omega (arith, ints, turned-front start (place - start) word (omega arith), ap (height word) e, height-is (turned start word) (place - start), good_start.good.above (place - start) (omega (arith, long)));
+          omega (arith, ints, turned-prefix start (place - start) word (omega arith), ap (height word) e, height-is (turned start word) (place - start), good_start.good.above (place - start) (omega (arith, long)));
     }
 
--- the sum of a front, with the bounds by which it fits
-pub record IsSummedTo (word : List ℤ) (front : ℕ) (sum : ℤ) : Type 0 where
-  pub is : sum ≡ height word front
-  pub least : neg_ℤ (pos front) ≤ℤ sum
-  pub most : sum ≤ℤ pos (2147483648 * front)
+-- the sum of a prefix, with the bounds by which it fits
+pub record IsSummedTo (word : List ℤ) (prefix : ℕ) (sum : ℤ) : Type 0 where
+  pub is : sum ≡ height word prefix
+  pub least : neg_ℤ (pos prefix) ≤ℤ sum
+  pub most : sum ≤ℤ pos (2147483648 * prefix)
 
 pub IsSummedTo-none : (word : List ℤ) → IsSummedTo word 0 (pos 0)
 IsSummedTo-none word = record { is = sym (height-none word); least = omega (arith, ints); most = omega (arith, ints) }
 
-pub IsSummedTo-more : (word : List ℤ) (front : ℕ) (sum after : ℤ) → IsSummedTo word front sum → negsuc 0 ≤ℤ get_or word front (pos 0) → front < length word → get_or word front (pos 0) ≤ℤ pos 2147483647
-    → after ≡ sum +ℤ get_or word front (pos 0) → IsSummedTo word (front + 1) after
-IsSummedTo-more word front sum after summed at_least inside fits is = record {
-  is = omega (arith, ints, summed.is, height-more word front inside, is);
+pub IsSummedTo-more : (word : List ℤ) (prefix : ℕ) (sum after : ℤ) → IsSummedTo word prefix sum → negsuc 0 ≤ℤ get_or word prefix (pos 0) → prefix < length word → get_or word prefix (pos 0) ≤ℤ pos 2147483647
+    → after ≡ sum +ℤ get_or word prefix (pos 0) → IsSummedTo word (prefix + 1) after
+IsSummedTo-more word prefix sum after summed at_least inside fits is = record {
+  is = omega (arith, ints, summed.is, height-more word prefix inside, is);
   least = omega (arith, ints, summed.least, at_least, is);
   most = omega (arith, ints, summed.most, fits, is);
 }
 
-pub height-falls : (word : List ℤ) (front : ℕ) → IsWord word → front < length word → height word front ≤ℤ (height word (front + 1) +ℤ pos 1)
-height-falls word front is_word inside = omega (arith, ints, height-more word front inside, is_word.least front inside)
+pub height-falls : (word : List ℤ) (prefix : ℕ) → IsWord word → prefix < length word → height word prefix ≤ℤ (height word (prefix + 1) +ℤ pos 1)
+height-falls word prefix is_word inside = omega (arith, ints, height-more word prefix inside, is_word.least prefix inside)
 
--- the least height of the first fronts
-pub record IsLowestTo (word : List ℤ) (front : ℕ) (lowest : ℤ) : Type 0 where
-  pub below : (place : ℕ) → place < front → lowest ≤ℤ height word place
+-- the least height of the first prefixes
+pub record IsLowestTo (word : List ℤ) (prefix : ℕ) (lowest : ℤ) : Type 0 where
+  pub below : (place : ℕ) → place < prefix → lowest ≤ℤ height word place
   pub reached : (place : ℕ) × (place < length word) × (height word place ≡ lowest)
 
 pub IsLowestTo-none : (word : List ℤ) → 0 < length word → IsLowestTo word 0 (pos 0)
 IsLowestTo-none word filled = record { below = λ place inside. absurd (omega arith); reached = (0, filled, height-none word) }
 
 -- a lower sum takes the place of the lowest
-pub IsLowestTo-lower : (word : List ℤ) (front : ℕ) (lowest sum : ℤ) → IsLowestTo word front lowest → sum ≡ height word front → front < length word → sum <ℤ lowest → IsLowestTo word (front + 1) sum
-IsLowestTo-lower word front lowest sum lowest_to sum_is inside lower = record {
-  below = λ place place_inside. elim (cases_eq place front) [
+pub IsLowestTo-lower : (word : List ℤ) (prefix : ℕ) (lowest sum : ℤ) → IsLowestTo word prefix lowest → sum ≡ height word prefix → prefix < length word → sum <ℤ lowest → IsLowestTo word (prefix + 1) sum
+IsLowestTo-lower word prefix lowest sum lowest_to sum_is inside lower = record {
+  below = λ place place_inside. elim (cases_eq place prefix) [
     | inl here ↦ omega (arith, ints, ap (height word) here, sum_is)
     | inr other ↦ omega (arith, ints, lowest_to.below place (omega (arith, other)), lower)
   ];
-  reached = (front, inside, sym sum_is);
+  reached = (prefix, inside, sym sum_is);
 }
 
-pub IsLowestTo-same : (word : List ℤ) (front : ℕ) (lowest sum : ℤ) → IsLowestTo word front lowest → sum ≡ height word front → lowest ≤ℤ sum → IsLowestTo word (front + 1) lowest
-IsLowestTo-same word front lowest sum lowest_to sum_is higher = record {
-  below = λ place place_inside. elim (cases_eq place front) [
+pub IsLowestTo-same : (word : List ℤ) (prefix : ℕ) (lowest sum : ℤ) → IsLowestTo word prefix lowest → sum ≡ height word prefix → lowest ≤ℤ sum → IsLowestTo word (prefix + 1) lowest
+IsLowestTo-same word prefix lowest sum lowest_to sum_is higher = record {
+  below = λ place place_inside. elim (cases_eq place prefix) [
     | inl here ↦ omega (arith, ints, ap (height word) here, sum_is, higher)
     | inr other ↦ lowest_to.below place (omega (arith, other))
   ];
   reached = lowest_to.reached;
 }
 
-pub IsLowestTo-all : (word : List ℤ) (front : ℕ) (lowest : ℤ) → front ≡ length word → IsLowestTo word front lowest → IsLowest word lowest
-IsLowestTo-all word front lowest all lowest_to = record {
+pub IsLowestTo-all : (word : List ℤ) (prefix : ℕ) (lowest : ℤ) → prefix ≡ length word → IsLowestTo word prefix lowest → IsLowest word lowest
+IsLowestTo-all word prefix lowest all lowest_to = record {
   below = λ place inside. omega (arith, ints, height-is word place, lowest_to.below place (omega arith));
   reached = (lowest_to.reached.0, lowest_to.reached.1, sym (height-is word lowest_to.reached.0) ∙ lowest_to.reached.2);
 }
 
-height-least : (word : List ℤ) (front : ℕ) → IsWord word → front ≤ length word → neg_ℤ (pos front) ≤ℤ height word front
+height-least : (word : List ℤ) (prefix : ℕ) → IsWord word → prefix ≤ length word → neg_ℤ (pos prefix) ≤ℤ height word prefix
 height-least word zero is_word within = omega (arith, ints, height-none word)
-height-least word (suc front) is_word within =
-    let e : front + 1 ≡ suc front = omega arith in
-    omega (arith, ints, height-falls word front is_word (omega arith), ap (height word) e, height-least word front is_word (omega arith))
+height-least word (suc prefix) is_word within =
+    let e : prefix + 1 ≡ suc prefix = omega arith in
+    omega (arith, ints, height-falls word prefix is_word (omega arith), ap (height word) e, height-least word prefix is_word (omega arith))
 
 -- the lowest height is small
 pub record IsSmall (word : List ℤ) (lowest : ℤ) : Type 0 where
@@ -229,18 +229,18 @@ letter_most : (letter : ℤ) → SFits w32 letter → letter ≤ℤ pos 21474836
 letter_most letter fits = omega (arith, ints)
 
 -- the sum that the program has fits, so it is the sum
-pub IsSummedTo-step : (word : List ℤ) (front bits : ℕ) (read : ℤ) → IsSummedTo word front (to_z w64 bits) → negsuc 0 ≤ℤ get_or word front (pos 0) → front < length word → length word < 4294967296
-    → SFits w32 (get_or word front (pos 0)) → read ≡ to_z w32 (of_z w32 (get_or word front (pos 0)))
-    → IsSummedTo word (front + 1) (to_z w64 (of_z w64 (to_z w64 bits +ℤ to_z w64 (of_z w64 read))))
-IsSummedTo-step word front bits read summed at_least inside few fits is =
-    let letter : read ≡ get_or word front (pos 0) = is ∙ to_z-of_z w32 (get_or word front (pos 0)) fits in
-    let most = letter_most (get_or word front (pos 0)) fits in
+pub IsSummedTo-step : (word : List ℤ) (prefix bits : ℕ) (read : ℤ) → IsSummedTo word prefix (to_z w64 bits) → negsuc 0 ≤ℤ get_or word prefix (pos 0) → prefix < length word → length word < 4294967296
+    → SFits w32 (get_or word prefix (pos 0)) → read ≡ to_z w32 (of_z w32 (get_or word prefix (pos 0)))
+    → IsSummedTo word (prefix + 1) (to_z w64 (of_z w64 (to_z w64 bits +ℤ to_z w64 (of_z w64 read))))
+IsSummedTo-step word prefix bits read summed at_least inside few fits is =
+    let letter : read ≡ get_or word prefix (pos 0) = is ∙ to_z-of_z w32 (get_or word prefix (pos 0)) fits in
+    let most = letter_most (get_or word prefix (pos 0)) fits in
     let read_fits : SFits w64 read = fits_between read (omega (arith, ints, letter, at_least)) (omega (arith, ints, letter, most)) in
-    let same : to_z w64 (of_z w64 read) ≡ get_or word front (pos 0) = to_z-of_z w64 read read_fits ∙ letter in
-    let sum : to_z w64 bits +ℤ to_z w64 (of_z w64 read) ≡ to_z w64 bits +ℤ get_or word front (pos 0) = ap (λ r. to_z w64 bits +ℤ r) same in
-    let sum_fits : SFits w64 (to_z w64 bits +ℤ get_or word front (pos 0)) = fits_between (to_z w64 bits +ℤ get_or word front (pos 0)) (omega (arith, ints, summed.least, at_least)) (omega (arith, ints, summed.most, most)) in
-    IsSummedTo-more word front (to_z w64 bits) _ summed at_least inside most
-    (ap (λ s. to_z w64 (of_z w64 s)) sum ∙ to_z-of_z w64 (to_z w64 bits +ℤ get_or word front (pos 0)) sum_fits)
+    let same : to_z w64 (of_z w64 read) ≡ get_or word prefix (pos 0) = to_z-of_z w64 read read_fits ∙ letter in
+    let sum : to_z w64 bits +ℤ to_z w64 (of_z w64 read) ≡ to_z w64 bits +ℤ get_or word prefix (pos 0) = ap (λ r. to_z w64 bits +ℤ r) same in
+    let sum_fits : SFits w64 (to_z w64 bits +ℤ get_or word prefix (pos 0)) = fits_between (to_z w64 bits +ℤ get_or word prefix (pos 0)) (omega (arith, ints, summed.least, at_least)) (omega (arith, ints, summed.most, most)) in
+    IsSummedTo-more word prefix (to_z w64 bits) _ summed at_least inside most
+    (ap (λ s. to_z w64 (of_z w64 s)) sum ∙ to_z-of_z w64 (to_z w64 bits +ℤ get_or word prefix (pos 0)) sum_fits)
 
 -- the bound that the program has is the lowest sum and the goal
 pub bound_is : (word : List ℤ) (goal : ℕ) (lowest read : ℤ) → IsSmall word lowest → length word < 4294967296 → goal < 4294967296 → read ≡ pos goal

@@ -20,7 +20,7 @@ word_of-injective first second same =
 
 -- the ends of a word that have a letter sum to -1 at most
 pub record HasLowEnds (word : List ℤ) : Type 0 where
-  pub low : (front : ℕ) → front < length word → sum_of (drop front word) ≤ℤ negsuc 0
+  pub low : (prefix : ℕ) → prefix < length word → sum_of (drop prefix word) ≤ℤ negsuc 0
 
 pub sum_of-cons : (letter : ℤ) (later : List ℤ) → sum_of (letter ∷ later) ≡ letter +ℤ sum_of later
 sum_of-cons letter later =
@@ -34,12 +34,12 @@ sum_of-ends (letter ∷ later) ends = omega (arith, ints, ends.low 0 (omega arit
 HasLowEnds-cons : (letter : ℤ) (later : List ℤ) → sum_of (letter ∷ later) ≤ℤ negsuc 0 → HasLowEnds later → HasLowEnds (letter ∷ later)
 HasLowEnds-cons letter later low ends = record { low = go }
   where
-    go : (front : ℕ) → front < suc (length later) → sum_of (drop front (letter ∷ later)) ≤ℤ negsuc 0
+    go : (prefix : ℕ) → prefix < suc (length later) → sum_of (drop prefix (letter ∷ later)) ≤ℤ negsuc 0
     go zero inside = low
-    go (suc front) inside = ends.low front (omega arith)
+    go (suc prefix) inside = ends.low prefix (omega arith)
 
 HasLowEnds-tail : (letter : ℤ) (later : List ℤ) → HasLowEnds (letter ∷ later) → HasLowEnds later
-HasLowEnds-tail letter later ends = record { low = λ front inside. ends.low (suc front) (omega arith) }
+HasLowEnds-tail letter later ends = record { low = λ prefix inside. ends.low (suc prefix) (omega arith) }
 
 IsWord-cons : (letter : ℤ) (later : List ℤ) → negsuc 0 ≤ℤ letter → IsWord later → IsWord (letter ∷ later)
 IsWord-cons letter later least is_word = record { least = go }
@@ -91,14 +91,14 @@ HasLowEnds-words_of (tree subtrees others) rest ends =
     ))
     (let P : List ℤ → Type 0 = HasLowEnds in subst P (sym (append_assoc (words_of subtrees) (words_of others) rest)) (HasLowEnds-words_of subtrees (words_of others ++ rest) (HasLowEnds-words_of others rest ends)))
 
-sum_of-split : (word : List ℤ) (front : ℕ) → sum_of word ≡ sum_of (take front word) +ℤ sum_of (drop front word)
-sum_of-split word front = ap sum_of (sym (take-append-drop front word)) ∙ sum_of-append (take front word) (drop front word)
+sum_of-split : (word : List ℤ) (prefix : ℕ) → sum_of word ≡ sum_of (take prefix word) +ℤ sum_of (drop prefix word)
+sum_of-split word prefix = ap sum_of (sym (take-append-drop prefix word)) ∙ sum_of-append (take prefix word) (drop prefix word)
 
 HasLowEnds-good : (word : List ℤ) → IsGood 1 word → HasLowEnds word
-HasLowEnds-good word good = record { low = λ front inside. omega (arith, ints, sum_of-split word front, good.sum, good.above front inside) }
+HasLowEnds-good word good = record { low = λ prefix inside. omega (arith, ints, sum_of-split word prefix, good.sum, good.above prefix inside) }
 
 IsGood-low : (word : List ℤ) → sum_of word ≡ negsuc 0 → HasLowEnds word → IsGood 1 word
-IsGood-low word sum ends = record { sum = sum; above = λ front inside. omega (arith, ints, sum_of-split word front, sum, ends.low front inside) }
+IsGood-low word sum ends = record { sum = sum; above = λ prefix inside. omega (arith, ints, sum_of-split word prefix, sum, ends.low prefix inside) }
 
 pub IsWord-word_of : (subtrees : Trees) → IsWord (word_of subtrees)
 IsWord-word_of subtrees =
@@ -108,7 +108,7 @@ IsWord-word_of subtrees =
 pub IsGood-word_of : (subtrees : Trees) → IsGood 1 (word_of subtrees)
 IsGood-word_of subtrees =
     let P : List ℤ → Type 0 = HasLowEnds in
-    let ends : HasLowEnds (word_of subtrees) = subst P (append-nil (words_of (tree subtrees none)) ∙ word_of-tree subtrees) (HasLowEnds-words_of (tree subtrees none) [] (record { low = λ front inside. absurd (omega arith) })) in
+    let ends : HasLowEnds (word_of subtrees) = subst P (append-nil (words_of (tree subtrees none)) ∙ word_of-tree subtrees) (HasLowEnds-words_of (tree subtrees none) [] (record { low = λ prefix inside. absurd (omega arith) })) in
     IsGood-low (word_of subtrees) (omega (arith, ints, sum_of-words_of (tree subtrees none), ap sum_of (word_of-tree subtrees))) ends
 
 -- a word without high ends is read as trees whose words it is

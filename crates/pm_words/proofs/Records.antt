@@ -15,18 +15,18 @@ pub record IsRecord (word : List ℤ) (bound : ℤ) (place : ℕ) : Type 0 where
   pub under : height word place <ℤ bound
 
 -- the least height so far: one above the first before any is seen
-pub data IsLeast (word : List ℤ) (front : ℕ) (least : ℤ) : Type 0 where
-  none_seen : front ≡ 0 → least ≡ pos 1 → IsLeast word front least
-  seen_at : (place : ℕ) → place < front → height word place ≡ least → IsLeast word front least
+pub data IsLeast (word : List ℤ) (prefix : ℕ) (least : ℤ) : Type 0 where
+  none_seen : prefix ≡ 0 → least ≡ pos 1 → IsLeast word prefix least
+  seen_at : (place : ℕ) → place < prefix → height word place ≡ least → IsLeast word prefix least
 
--- the records of the first fronts
-pub record HasRecords (word : List ℤ) (bound : ℤ) (front : ℕ) (least : ℤ) (starts : List ℕ) : Type 0 where
-  pub below : (place : ℕ) → place < front → least ≤ℤ height word place
-  pub reached : IsLeast word front least
+-- the records of the first prefixes
+pub record HasRecords (word : List ℤ) (bound : ℤ) (prefix : ℕ) (least : ℤ) (starts : List ℕ) : Type 0 where
+  pub below : (place : ℕ) → place < prefix → least ≤ℤ height word place
+  pub reached : IsLeast word prefix least
   pub rising : IsStrictlyIncreasing starts
-  pub inside : (place : ℕ) → place < length starts → get_or starts place 0 < front
+  pub inside : (place : ℕ) → place < length starts → get_or starts place 0 < prefix
   pub good : (place : ℕ) → place < length starts → IsRecord word bound (get_or starts place 0)
-  pub all : (start : ℕ) → start < front → IsRecord word bound start → (place : ℕ) × (place < length starts) × (get_or starts place 0 ≡ start)
+  pub all : (start : ℕ) → start < prefix → IsRecord word bound start → (place : ℕ) × (place < length starts) × (get_or starts place 0 ≡ start)
   pub none_yet : bound ≤ℤ least → length starts ≡ 0
   pub as_many : least ≤ℤ bound → pos (length starts) +ℤ least ≡ bound
 
@@ -43,78 +43,78 @@ HasRecords-none word bound starts low none = rw none (record {
 })
 
 -- a sum that is below the least is one less
-one_less : (word : List ℤ) (front : ℕ) (least sum : ℤ) → IsWord word → front < length word → ((place : ℕ) → place < front → least ≤ℤ height word place) → IsLeast word front least → sum ≡ height word front → sum <ℤ least → sum +ℤ pos 1 ≡ least
+one_less : (word : List ℤ) (prefix : ℕ) (least sum : ℤ) → IsWord word → prefix < length word → ((place : ℕ) → place < prefix → least ≤ℤ height word place) → IsLeast word prefix least → sum ≡ height word prefix → sum <ℤ least → sum +ℤ pos 1 ≡ least
 one_less word zero least sum is_word inside below (none_seen start is_one) sum_is lower = omega (arith, ints, sum_is, height-none word, is_one)
 one_less word zero least sum is_word inside below (seen_at place earlier is) sum_is lower = absurd (omega arith)
-one_less word (suc front) least sum is_word inside below reached sum_is lower =
-    let e : front + 1 ≡ suc front = omega arith in
-    omega (arith, ints, sum_is, height-falls word front is_word (omega arith), ap (height word) e, below front (omega arith), lower)
+one_less word (suc prefix) least sum is_word inside below reached sum_is lower =
+    let e : prefix + 1 ≡ suc prefix = omega arith in
+    omega (arith, ints, sum_is, height-falls word prefix is_word (omega arith), ap (height word) e, below prefix (omega arith), lower)
 
-before_front : (word : List ℤ) (front : ℕ) (least sum : ℤ) → ((place : ℕ) → place < front → least ≤ℤ height word place) → sum ≡ height word front → sum <ℤ least → (earlier : ℕ) → earlier < front → height word front <ℤ height word earlier
-before_front word front least sum below sum_is lower earlier inside = omega (arith, ints, sum_is, below earlier inside)
+before_prefix : (word : List ℤ) (prefix : ℕ) (least sum : ℤ) → ((place : ℕ) → place < prefix → least ≤ℤ height word place) → sum ≡ height word prefix → sum <ℤ least → (earlier : ℕ) → earlier < prefix → height word prefix <ℤ height word earlier
+before_prefix word prefix least sum below sum_is lower earlier inside = omega (arith, ints, sum_is, below earlier inside)
 
-lower_below : (word : List ℤ) (front : ℕ) (least sum : ℤ) → ((place : ℕ) → place < front → least ≤ℤ height word place) → sum ≡ height word front → sum <ℤ least → (place : ℕ) → place < front + 1 → sum ≤ℤ height word place
-lower_below word front least sum below sum_is lower place inside = elim (cases_eq place front) [
+lower_below : (word : List ℤ) (prefix : ℕ) (least sum : ℤ) → ((place : ℕ) → place < prefix → least ≤ℤ height word place) → sum ≡ height word prefix → sum <ℤ least → (place : ℕ) → place < prefix + 1 → sum ≤ℤ height word place
+lower_below word prefix least sum below sum_is lower place inside = elim (cases_eq place prefix) [
   | inl here ↦ omega (arith, ints, ap (height word) here, sum_is)
   | inr other ↦ omega (arith, ints, below place (omega (arith, other)), lower)
 ]
 
-rising-push : (starts : List ℕ) (front : ℕ) → IsStrictlyIncreasing starts → ((place : ℕ) → place < length starts → get_or starts place 0 < front) → IsStrictlyIncreasing (starts ++ front ∷ [])
-rising-push starts front rising inside = λ place place_inside.
-    let long : length (starts ++ front ∷ []) ≡ length starts + 1 = length-append starts (front ∷ []) in
+rising-push : (starts : List ℕ) (prefix : ℕ) → IsStrictlyIncreasing starts → ((place : ℕ) → place < length starts → get_or starts place 0 < prefix) → IsStrictlyIncreasing (starts ++ prefix ∷ [])
+rising-push starts prefix rising inside = λ place place_inside.
+    let long : length (starts ++ prefix ∷ []) ≡ length starts + 1 = length-append starts (prefix ∷ []) in
     elim (cases_lt (place + 1) (length starts)) [
-      | inl old ↦ omega (arith, get_or_append_left starts (front ∷ []) 0 place (omega arith), get_or_append_left starts (front ∷ []) 0 (place + 1) old, rising place old)
-      | inr last ↦ omega (arith, get_or_append_left starts (front ∷ []) 0 place (omega arith), get_or_push starts front 0 (place + 1) (omega arith), inside place (omega arith))
+      | inl old ↦ omega (arith, get_or_append_left starts (prefix ∷ []) 0 place (omega arith), get_or_append_left starts (prefix ∷ []) 0 (place + 1) old, rising place old)
+      | inr last ↦ omega (arith, get_or_append_left starts (prefix ∷ []) 0 place (omega arith), get_or_push starts prefix 0 (place + 1) (omega arith), inside place (omega arith))
     ]
 
 -- what holds of the old entries and of the new one holds of all
-each-push : (P : ℕ → Type 0) (starts : List ℕ) (front : ℕ) → ((place : ℕ) → place < length starts → P (get_or starts place 0)) → P front → (place : ℕ) → place < length (starts ++ front ∷ []) → P (get_or (starts ++ front ∷ []) place 0)
-each-push P starts front old new place inside =
-    let long : length (starts ++ front ∷ []) ≡ length starts + 1 = length-append starts (front ∷ []) in
+each-push : (P : ℕ → Type 0) (starts : List ℕ) (prefix : ℕ) → ((place : ℕ) → place < length starts → P (get_or starts place 0)) → P prefix → (place : ℕ) → place < length (starts ++ prefix ∷ []) → P (get_or (starts ++ prefix ∷ []) place 0)
+each-push P starts prefix old new place inside =
+    let long : length (starts ++ prefix ∷ []) ≡ length starts + 1 = length-append starts (prefix ∷ []) in
     elim (cases_lt place (length starts)) [
-      | inl is_old ↦ subst P (sym (get_or_append_left starts (front ∷ []) 0 place is_old)) (old place is_old)
-      | inr is_new ↦ subst P (sym (get_or_push starts front 0 place (omega arith))) new
+      | inl is_old ↦ subst P (sym (get_or_append_left starts (prefix ∷ []) 0 place is_old)) (old place is_old)
+      | inr is_new ↦ subst P (sym (get_or_push starts prefix 0 place (omega arith))) new
     ]
 
-found-push : (starts : List ℕ) (front start : ℕ) → (place : ℕ) × (place < length starts) × (get_or starts place 0 ≡ start) → (place : ℕ) × (place < length (starts ++ front ∷ [])) × (get_or (starts ++ front ∷ []) place 0 ≡ start)
-found-push starts front start found =
+found-push : (starts : List ℕ) (prefix start : ℕ) → (place : ℕ) × (place < length starts) × (get_or starts place 0 ≡ start) → (place : ℕ) × (place < length (starts ++ prefix ∷ [])) × (get_or (starts ++ prefix ∷ []) place 0 ≡ start)
+found-push starts prefix start found =
     let inside : found.0 < length starts = found.1 in
-    (found.0, omega (arith, length-append starts (front ∷ [])), get_or_append_left starts (front ∷ []) 0 found.0 inside ∙ found.2)
+    (found.0, omega (arith, length-append starts (prefix ∷ [])), get_or_append_left starts (prefix ∷ []) 0 found.0 inside ∙ found.2)
 
 -- a new record below the bound
-pub HasRecords-push : (word : List ℤ) (bound : ℤ) (front : ℕ) (least sum : ℤ) (starts : List ℕ) → HasRecords word bound front least starts → sum ≡ height word front → IsWord word → front < length word
-    → sum <ℤ least → sum <ℤ bound → HasRecords word bound (front + 1) sum (starts ++ front ∷ [])
-HasRecords-push word bound front least sum starts has sum_is is_word inside lower under =
-    let less : sum +ℤ pos 1 ≡ least = one_less word front least sum is_word inside has.below has.reached sum_is lower in
-    let new : IsRecord word bound front = record { before = before_front word front least sum has.below sum_is lower; under = omega (arith, ints, sum_is, under) } in
-    let long : length (starts ++ front ∷ []) ≡ length starts + 1 = length-append starts (front ∷ []) in
+pub HasRecords-push : (word : List ℤ) (bound : ℤ) (prefix : ℕ) (least sum : ℤ) (starts : List ℕ) → HasRecords word bound prefix least starts → sum ≡ height word prefix → IsWord word → prefix < length word
+    → sum <ℤ least → sum <ℤ bound → HasRecords word bound (prefix + 1) sum (starts ++ prefix ∷ [])
+HasRecords-push word bound prefix least sum starts has sum_is is_word inside lower under =
+    let less : sum +ℤ pos 1 ≡ least = one_less word prefix least sum is_word inside has.below has.reached sum_is lower in
+    let new : IsRecord word bound prefix = record { before = before_prefix word prefix least sum has.below sum_is lower; under = omega (arith, ints, sum_is, under) } in
+    let long : length (starts ++ prefix ∷ []) ≡ length starts + 1 = length-append starts (prefix ∷ []) in
     let many : pos (length starts) +ℤ least ≡ bound = has.as_many (omega (arith, ints)) in
     record {
-      below = lower_below word front least sum has.below sum_is lower;
-      reached = seen_at front (omega arith) (sym sum_is);
-      rising = rising-push starts front has.rising has.inside;
-      inside = each-push (λ start. start < front + 1) starts front (λ place place_inside. omega (arith, has.inside place place_inside)) (omega arith);
-      good = each-push (IsRecord word bound) starts front has.good new;
-      all = λ start start_inside is_record. elim (cases_eq start front) [
-        | inl here ↦ (length starts, omega arith, get_or_push starts front 0 (length starts) refl ∙ sym here)
-        | inr other ↦ found-push starts front start (has.all start (omega (arith, other)) is_record)
+      below = lower_below word prefix least sum has.below sum_is lower;
+      reached = seen_at prefix (omega arith) (sym sum_is);
+      rising = rising-push starts prefix has.rising has.inside;
+      inside = each-push (λ start. start < prefix + 1) starts prefix (λ place place_inside. omega (arith, has.inside place place_inside)) (omega arith);
+      good = each-push (IsRecord word bound) starts prefix has.good new;
+      all = λ start start_inside is_record. elim (cases_eq start prefix) [
+        | inl here ↦ (length starts, omega arith, get_or_push starts prefix 0 (length starts) refl ∙ sym here)
+        | inr other ↦ found-push starts prefix start (has.all start (omega (arith, other)) is_record)
       ];
       none_yet = λ past. absurd (omega (arith, ints));
       as_many = λ under_bound. omega (arith, ints, long, many, less);
     }
 
 -- a new least height that is not below the bound
-pub HasRecords-high : (word : List ℤ) (bound : ℤ) (front : ℕ) (least sum : ℤ) (starts : List ℕ) → HasRecords word bound front least starts → sum ≡ height word front → IsWord word → front < length word
-    → sum <ℤ least → bound ≤ℤ sum → HasRecords word bound (front + 1) sum starts
-HasRecords-high word bound front least sum starts has sum_is is_word inside lower over =
+pub HasRecords-high : (word : List ℤ) (bound : ℤ) (prefix : ℕ) (least sum : ℤ) (starts : List ℕ) → HasRecords word bound prefix least starts → sum ≡ height word prefix → IsWord word → prefix < length word
+    → sum <ℤ least → bound ≤ℤ sum → HasRecords word bound (prefix + 1) sum starts
+HasRecords-high word bound prefix least sum starts has sum_is is_word inside lower over =
     let none : length starts ≡ 0 = has.none_yet (omega (arith, ints)) in
     record {
-      below = lower_below word front least sum has.below sum_is lower;
-      reached = seen_at front (omega arith) (sym sum_is);
+      below = lower_below word prefix least sum has.below sum_is lower;
+      reached = seen_at prefix (omega arith) (sym sum_is);
       rising = has.rising;
       inside = λ place place_inside. omega (arith, has.inside place place_inside);
       good = has.good;
-      all = λ start start_inside is_record. elim (cases_eq start front) [
+      all = λ start start_inside is_record. elim (cases_eq start prefix) [
         | inl here ↦ absurd (omega (arith, ints, is_record.under, ap (height word) here, sum_is))
         | inr other ↦ has.all start (omega (arith, other)) is_record
       ];
@@ -123,26 +123,26 @@ HasRecords-high word bound front least sum starts has sum_is is_word inside lowe
     }
 
 -- no record: some height before is as low
-not_lower : (word : List ℤ) (bound : ℤ) (front : ℕ) (least sum : ℤ) → IsLeast word front least → sum ≡ height word front → least ≤ℤ sum → IsRecord word bound front → ⊥
-not_lower word bound front least sum (none_seen start is_one) sum_is higher is_record = omega (arith, ints, sum_is, ap (height word) start, height-none word, is_one)
-not_lower word bound front least sum (seen_at place earlier is) sum_is higher is_record = omega (arith, ints, sum_is, is_record.before place earlier, is)
+not_lower : (word : List ℤ) (bound : ℤ) (prefix : ℕ) (least sum : ℤ) → IsLeast word prefix least → sum ≡ height word prefix → least ≤ℤ sum → IsRecord word bound prefix → ⊥
+not_lower word bound prefix least sum (none_seen start is_one) sum_is higher is_record = omega (arith, ints, sum_is, ap (height word) start, height-none word, is_one)
+not_lower word bound prefix least sum (seen_at place earlier is) sum_is higher is_record = omega (arith, ints, sum_is, is_record.before place earlier, is)
 
-IsLeast-more : (word : List ℤ) (front : ℕ) (least sum : ℤ) → IsLeast word front least → sum ≡ height word front → least ≤ℤ sum → IsLeast word (front + 1) least
-IsLeast-more word front least sum (none_seen start is_one) sum_is higher = absurd (omega (arith, ints, sum_is, ap (height word) start, height-none word, is_one))
-IsLeast-more word front least sum (seen_at place earlier is) sum_is higher = seen_at place (omega arith) is
+IsLeast-more : (word : List ℤ) (prefix : ℕ) (least sum : ℤ) → IsLeast word prefix least → sum ≡ height word prefix → least ≤ℤ sum → IsLeast word (prefix + 1) least
+IsLeast-more word prefix least sum (none_seen start is_one) sum_is higher = absurd (omega (arith, ints, sum_is, ap (height word) start, height-none word, is_one))
+IsLeast-more word prefix least sum (seen_at place earlier is) sum_is higher = seen_at place (omega arith) is
 
-pub HasRecords-same : (word : List ℤ) (bound : ℤ) (front : ℕ) (least sum : ℤ) (starts : List ℕ) → HasRecords word bound front least starts → sum ≡ height word front → least ≤ℤ sum → HasRecords word bound (front + 1) least starts
-HasRecords-same word bound front least sum starts has sum_is higher = record {
-  below = λ place place_inside. elim (cases_eq place front) [
+pub HasRecords-same : (word : List ℤ) (bound : ℤ) (prefix : ℕ) (least sum : ℤ) (starts : List ℕ) → HasRecords word bound prefix least starts → sum ≡ height word prefix → least ≤ℤ sum → HasRecords word bound (prefix + 1) least starts
+HasRecords-same word bound prefix least sum starts has sum_is higher = record {
+  below = λ place place_inside. elim (cases_eq place prefix) [
     | inl here ↦ omega (arith, ints, ap (height word) here, sum_is)
     | inr other ↦ has.below place (omega (arith, other))
   ];
-  reached = IsLeast-more word front least sum has.reached sum_is higher;
+  reached = IsLeast-more word prefix least sum has.reached sum_is higher;
   rising = has.rising;
   inside = λ place place_inside. omega (arith, has.inside place place_inside);
   good = has.good;
-  all = λ start start_inside is_record. elim (cases_eq start front) [
-    | inl here ↦ let P : ℕ → Type 0 = IsRecord word bound in absurd (not_lower word bound front least sum has.reached sum_is higher (subst P here is_record))
+  all = λ start start_inside is_record. elim (cases_eq start prefix) [
+    | inl here ↦ let P : ℕ → Type 0 = IsRecord word bound in absurd (not_lower word bound prefix least sum has.reached sum_is higher (subst P here is_record))
     | inr other ↦ has.all start (omega (arith, other)) is_record
   ];
   none_yet = has.none_yet;
@@ -171,19 +171,19 @@ record_from_low word goal lowest bound start positive is_lowest bound_is low =
       ];
     }
 
-least_is_lowest : (word : List ℤ) (front : ℕ) (lowest least : ℤ) → front ≡ length word → 0 < front → IsLowest word lowest → ((place : ℕ) → place < front → least ≤ℤ height word place) → IsLeast word front least → least ≡ lowest
-least_is_lowest word front lowest least whole filled is_lowest below (none_seen start is_one) = absurd (omega arith)
-least_is_lowest word front lowest least whole filled is_lowest below (seen_at place earlier is) =
+least_is_lowest : (word : List ℤ) (prefix : ℕ) (lowest least : ℤ) → prefix ≡ length word → 0 < prefix → IsLowest word lowest → ((place : ℕ) → place < prefix → least ≤ℤ height word place) → IsLeast word prefix least → least ≡ lowest
+least_is_lowest word prefix lowest least whole filled is_lowest below (none_seen start is_one) = absurd (omega arith)
+least_is_lowest word prefix lowest least whole filled is_lowest below (seen_at place earlier is) =
     let at = is_lowest.reached.0 in
     let at_is : height word at ≡ lowest = height-is word at ∙ is_lowest.reached.2 in
     let at_inside : at < length word = is_lowest.reached.1 in
     omega (arith, ints, is, is_lowest.below place (omega arith), height-is word place, below at (omega arith), at_is)
 
 -- at the end the records are the good starts
-pub HasRecords-starts : (word : List ℤ) (goal front : ℕ) (lowest bound least : ℤ) (starts : List ℕ) → 0 < goal → sum_of word ≡ neg_ℤ (pos goal) → 0 < length word → front ≡ length word → IsLowest word lowest → bound ≡ lowest +ℤ pos goal
-    → HasRecords word bound front least starts → IsGoodStarts goal word starts
-HasRecords-starts word goal front lowest bound least starts positive sum filled whole is_lowest bound_is has =
-    let same : least ≡ lowest = least_is_lowest word front lowest least whole (omega arith) is_lowest has.below has.reached in
+pub HasRecords-starts : (word : List ℤ) (goal prefix : ℕ) (lowest bound least : ℤ) (starts : List ℕ) → 0 < goal → sum_of word ≡ neg_ℤ (pos goal) → 0 < length word → prefix ≡ length word → IsLowest word lowest → bound ≡ lowest +ℤ pos goal
+    → HasRecords word bound prefix least starts → IsGoodStarts goal word starts
+HasRecords-starts word goal prefix lowest bound least starts positive sum filled whole is_lowest bound_is has =
+    let same : least ≡ lowest = least_is_lowest word prefix lowest least whole (omega arith) is_lowest has.below has.reached in
     record {
       as_many = omega (arith, ints, same, has.as_many (omega (arith, ints, same, bound_is)), bound_is);
       rising = has.rising;

@@ -18,7 +18,7 @@ turned start entries = drop start entries ++ take start entries
 -- the sum is -goal, and it is reached at the last letter only
 pub record IsGood (goal : ℕ) (word : List ℤ) : Type 0 where
   pub sum : sum_of word ≡ neg_ℤ (pos goal)
-  pub above : (front : ℕ) → front < length word → neg_ℤ (pos goal) <ℤ sum_of (take front word)
+  pub above : (prefix : ℕ) → prefix < length word → neg_ℤ (pos goal) <ℤ sum_of (take prefix word)
 
 -- a place from which the word is good
 pub record IsGoodStart (goal : ℕ) (word : List ℤ) (start : ℕ) : Type 0 where
@@ -32,7 +32,7 @@ pub record IsGoodStarts (goal : ℕ) (word : List ℤ) (starts : List ℕ) : Typ
   pub good : (place : ℕ) → place < length starts → IsGoodStart goal word (slice_index starts place)
   pub all : (start : ℕ) → IsGoodStart goal word start → (place : ℕ) × (place < length starts) × (slice_index starts place ≡ start)
 
--- the least sum of a front that leaves a letter out
+-- the least sum of a prefix that leaves a letter out
 pub record IsLowest (word : List ℤ) (lowest : ℤ) : Type 0 where
-  pub below : (front : ℕ) → front < length word → lowest ≤ℤ sum_of (take front word)
-  pub reached : (front : ℕ) × (front < length word) × (sum_of (take front word) ≡ lowest)
+  pub below : (prefix : ℕ) → prefix < length word → lowest ≤ℤ sum_of (take prefix word)
+  pub reached : (prefix : ℕ) × (prefix < length word) × (sum_of (take prefix word) ≡ lowest)

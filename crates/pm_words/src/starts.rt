@@ -17,11 +17,11 @@ pub fn good_starts(alloc: Global, word: &[i32], goal: u32) -> Result<Vec<u32>, A
     requires sum { sum_of word.now ≡ neg_ℤ (pos goal) }
     ensures { IfOk result (λ v. IsGoodStarts goal word.now v.items) }
 {
-    let bound = lowest_front(word) + i64::from(goal);
+    let bound = lowest_prefix(word) + i64::from(goal);
     let mut starts = Vec::new(alloc);
     let mut sum: i64 = 0;
     let mut least: i64 = 1;
-    'fronts: for (start, letter) in word.iter().enumerate() {
+    'prefixes: for (start, letter) in word.iter().enumerate() {
         if sum < least {
             least = sum;
             if sum < bound {
@@ -33,8 +33,8 @@ pub fn good_starts(alloc: Global, word: &[i32], goal: u32) -> Result<Vec<u32>, A
     Ok(starts)
 }
 
-// The least sum of a front of the word that leaves a letter out.
-fn lowest_front(word: &[i32]) -> i64
+// The least sum of a prefix of the word that leaves a letter out.
+fn lowest_prefix(word: &[i32]) -> i64
     requires few { length word.now < 2 ^ 32 }
     requires letters { IsWord word.now }
     requires filled { 0 < length word.now }
@@ -42,7 +42,7 @@ fn lowest_front(word: &[i32]) -> i64
 {
     let mut lowest: i64 = 0;
     let mut sum: i64 = 0;
-    'fronts: for letter in word {
+    'prefixes: for letter in word {
         if sum < lowest {
             lowest = sum;
         }

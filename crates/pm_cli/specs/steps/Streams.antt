@@ -29,7 +29,7 @@ IsReading old new faults_old faults_new (Err Memory) = faults_new ≡ faults_old
 IsReading old new faults_old faults_new (Err (Refused (Limited Bytes))) = IsOverLimit old faults_old faults_new
 IsReading old new faults_old faults_new (Err stop) = ⊥
 
--- the text was written whole, or a front of it
+-- the text was written whole, or a prefix of it
 abbrev pub IsWriting : List ℕ → Option (List ℕ) → Option (List ℕ) → ℕ → ℕ → Result (Unit {0}) Stop → Type 0
 IsWriting text old new faults_old faults_new (Ok done) = (new ≡ added old text) × (faults_new ≡ faults_old)
 IsWriting text old new faults_old faults_new (Err Write) = ((n : ℕ) × (new ≡ added old (take n text))) × FaultsRose faults_old faults_new
@@ -42,13 +42,13 @@ pub record HasAdded (text_is : List ℕ → Type 0) (old new : Option (List ℕ)
   pub written : new ≡ added old text
 
 -- the first n bytes of a text of that kind were added
-pub record HasAddedFront (text_is : List ℕ → Type 0) (old new : Option (List ℕ)) : Type 0 where
+pub record HasAddedPrefix (text_is : List ℕ → Type 0) (old new : Option (List ℕ)) : Type 0 where
   pub text : List ℕ
   pub holds : text_is text
-  pub front : ℕ
-  pub written : new ≡ added old (take front text)
+  pub prefix : ℕ
+  pub written : new ≡ added old (take prefix text)
 
--- a text of the first kind was added, and it is a front of a text of the second
+-- a text of the first kind was added, and it is a prefix of a text of the second
 pub record HasAddedFirst (first all : List ℕ → Type 0) (old new : Option (List ℕ)) : Type 0 where
   pub begun : List ℕ
   pub records : first begun
@@ -56,11 +56,11 @@ pub record HasAddedFirst (first all : List ℕ → Type 0) (old new : Option (Li
   pub holds : all (begun ++ rest)
   pub written : new ≡ added old begun
 
--- all records of an answer were written, or a front of them where the output failed, or nothing or the first ones where
+-- all records of an answer were written, or a prefix of them where the output failed, or nothing or the first ones where
 -- memory was wanting, or nothing where the answer is a refusal
 abbrev pub IsWritingRecords : (Result (List ℕ) Refusal → Type 0) → (List ℕ → Type 0) → Option (List ℕ) → Option (List ℕ) → ℕ → ℕ → Result (Unit {0}) Stop → Type 0
 IsWritingRecords answers first old new faults_old faults_new (Ok done) = HasAdded (λ text. answers (Ok text)) old new × (faults_new ≡ faults_old)
-IsWritingRecords answers first old new faults_old faults_new (Err Write) = HasAddedFront (λ text. answers (Ok text)) old new × FaultsRose faults_old faults_new
+IsWritingRecords answers first old new faults_old faults_new (Err Write) = HasAddedPrefix (λ text. answers (Ok text)) old new × FaultsRose faults_old faults_new
 IsWritingRecords answers first old new faults_old faults_new (Err Memory) = ((new ≡ old) ⊎ HasAddedFirst first (λ text. answers (Ok text)) old new) × (faults_new ≡ faults_old)
 IsWritingRecords answers first old new faults_old faults_new (Err (Refused refusal)) = answers (Err refusal) × (new ≡ old) × (faults_new ≡ faults_old)
 IsWritingRecords answers first old new faults_old faults_new (Err Read) = ⊥

@@ -5,7 +5,7 @@ use Rattle.pm_brackets.specs.Word.{count}
 use Rattle.pm_trees.specs.Word.{contour}
 use Rattle.pm_close.specs.Level.{IsLevel}
 
--- no front of the word has more than one leaf more than buds
+-- no prefix of the word has more than one leaf more than buds
 abbrev pub IsLow : List ℕ → Type 0
 IsLow letters = (k : ℕ) → k ≤ length letters → count LEAF (take k letters) ≤ suc (count BUD (take k letters))
 

@@ -18,7 +18,7 @@ pub record HasLater (numbers whole rest tail : List ℕ) : Type 0 where
 -- those numbers go on from there.
 pub record IsReadingNumbers (tag bytes : List ℕ) (place : ℕ) (numbers : List ℕ) : Type 0 where
   pub within : place ≤ length bytes
-  pub front : take place bytes ≡ tag ++ spaced_numbers numbers
+  pub prefix : take place bytes ≡ tag ++ spaced_numbers numbers
   pub fit : All (λ number. number < 2 ^ 64) numbers
   pub onward : (whole tail : List ℕ) → All (λ number. number < 2 ^ 64) whole → EndsNumbers tail → bytes ≡ tag ++ (spaced_numbers whole ++ tail)
       → HasLater numbers whole (drop place bytes) tail

@@ -11,7 +11,7 @@ pub record IsNumbersLine (tag text numbers : List ℕ) : Type 0 where
   pub fit : All (λ number. number < 2 ^ 64) numbers
   pub spelled : text ≡ tag ++ spaced_numbers numbers
 
--- so many bytes at the front are the line of a vertex for whose darts there is room; they are appended
+-- so many bytes at the prefix are the line of a vertex for whose darts there is room; they are appended
 pub record ReadsDarts (darts : ℕ) (bytes : List ℕ) (count : ℕ) (old new : List ℕ) : Type 0 where
   pub vertex : List ℕ
   pub is_vertex : IsVertexLine darts vertex
@@ -43,7 +43,7 @@ pub record IsFirstText (text : List ℕ) (edges root : ℕ) : Type 0 where
   pub first : IsFirstLine edges root
   pub line : IsNumbersLine (codes "map") text (edges ∷ root ∷ [])
 
--- what the map text at the front of the bytes says: the number of edges and the root, the darts of all lines one after
+-- what the map text at the prefix of the bytes says: the number of edges and the root, the darts of all lines one after
 -- another, and how many stand on each line; and the place after its last line
 pub record IsReadMap (bytes : List ℕ) (edges root : ℕ) (darts sizes : List ℕ) (after : ℕ) : Type 0 where
   pub vertices : List (List ℕ)
@@ -51,4 +51,4 @@ pub record IsReadMap (bytes : List ℕ) (edges root : ℕ) (darts sizes : List �
   pub darts_are : darts ≡ concat vertices
   pub sizes_are : sizes ≡ map length vertices
   pub within : after ≤ length bytes
-  pub front : take after bytes ≡ lines_text (record { edges = edges; root = root; vertices = vertices })
+  pub prefix : take after bytes ≡ lines_text (record { edges = edges; root = root; vertices = vertices })

@@ -8,9 +8,9 @@ use Rattle.pm_planting.specs.declared.kind.Kind.{Kind}
 use Rattle.pm_planting.specs.declared.kind.Kind.TheVariants.{Leaf}
 
 -- what stands before the first closing bracket, and what stands behind it
-abbrev pub front_of : List ℕ → List ℕ
-front_of [] = []
-front_of (x ∷ xs) = if x == CLOSE then [] else x ∷ front_of xs
+abbrev pub prefix_of : List ℕ → List ℕ
+prefix_of [] = []
+prefix_of (x ∷ xs) = if x == CLOSE then [] else x ∷ prefix_of xs
 
 abbrev pub behind : List ℕ → List ℕ
 behind [] = []
@@ -33,5 +33,5 @@ folded (x ∷ xs) = fold_letter x (folded xs)
 pub data AreKindsAlong : List ℕ → List Kind → Type 0 where
   ended : AreKindsAlong [] []
   a_leaf : (x : ℕ) (xs : List ℕ) (kinds : List Kind) → x ≡ LEAF → AreKindsAlong xs kinds → AreKindsAlong (x ∷ xs) (Leaf ∷ kinds)
-  a_node : (x : ℕ) (kind : Kind) (xs : List ℕ) (kinds : List Kind) → x ≡ OPEN → HasKind kind (front_of (folded xs)) → AreKindsAlong xs kinds → AreKindsAlong (x ∷ xs) (kind ∷ kinds)
+  a_node : (x : ℕ) (kind : Kind) (xs : List ℕ) (kinds : List Kind) → x ≡ OPEN → HasKind kind (prefix_of (folded xs)) → AreKindsAlong xs kinds → AreKindsAlong (x ∷ xs) (kind ∷ kinds)
   no_object : (x : ℕ) (xs : List ℕ) (kinds : List Kind) → (x ≡ LEAF → ⊥) → (x ≡ OPEN → ⊥) → AreKindsAlong xs kinds → AreKindsAlong (x ∷ xs) kinds

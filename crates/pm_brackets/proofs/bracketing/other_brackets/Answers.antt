@@ -13,7 +13,7 @@ letters-init c plant bare =
     filling_start plant bare _ _ _ (omega (arith, ap length zeros, length-replicate (length c.args.word.now + 1) none)) (ap (λ xs. get_or xs 0 0) zeros ∙ get_or-replicate (length c.args.word.now + 1) 0 none 0 (omega arith)) c.new-open.ensures.items
 
 pub unwrap-opener-requires : goal.unwrap-opener-requires
-unwrap-opener-requires c = c.pop.ensures.variant.1 (let h = opener_is_there 0 zero_is_other _ _ _ _ c.requires.matched c.if-letter-eq-CLOSE.true (c.letters.invariant 0 zero_is_other).front in omega arith)
+unwrap-opener-requires c = c.pop.ensures.variant.1 (let h = opener_is_there 0 zero_is_other _ _ _ _ c.requires.matched c.if-letter-eq-CLOSE.true (c.letters.invariant 0 zero_is_other).prefix in omega arith)
 
 pub index_mut-requires : goal.index_mut-requires
 index_mut-requires c =

@@ -10,7 +10,7 @@ use Rattle.pm_cli.specs.declared.refusal.Stop.TheVariants.{Write, Memory}
 use Rattle.pm_cli.specs.Counting.{total_line, IsCensusRecord, HasFirstEntries, Counts}
 use Rattle.pm_cli.specs.steps.Answering.{stop_of_census}
 use Rattle.pm_cli.specs.steps.Streams.{IsWritingRecords}
-use Rattle.pm_cli.proofs.CensusRecords.{record_of_entry, sum_more, place_within, sum_all, no_census, entries_written, entry_in_front, census_ends}
+use Rattle.pm_cli.proofs.CensusRecords.{record_of_entry, sum_more, place_within, sum_all, no_census, entries_written, entry_in_prefix, census_ends}
 use Rattle.pm_cli.proofs.Records.{AreWritten, none_written, one_more_written}
 use Rattle.pm_cli.proofs.Refusals.{stopped_as}
 use Rattle.pm_cli.proofs.census.write_census.Goals as goal
@@ -38,15 +38,15 @@ returns-in_err-text g c = stopped_as (IsWritingRecords (Counts (g.C.MapClass.cho
 pub returns-in_err-write : goal.returns-in_err-write
 returns-in_err-write g c =
     let is_record = record_of_entry c.in_ok-found.found c.maps.place c.map.result.now c.lists.result c.in_ok-text.text.items c.map.ensures c.lists.ensures c.in_ok-text.ensures in
-    let front = c.in_err-write.ensures.front in
+    let prefix = c.in_err-write.ensures.prefix in
     stopped_as (IsWritingRecords (Counts (g.C.MapClass.choice_limits c.args.size.now) (g.C.MapClass.samples c.args.size.now)) (HasFirstEntries (g.C.MapClass.choice_limits c.args.size.now) (g.C.MapClass.samples c.args.size.now))
     (g.O.Sink.holds c.args.out.now) (g.O.Sink.holds c.write.new.self) (g.O.Sink.faults c.args.out.now) (g.O.Sink.faults c.write.new.self)) Write (
-      entry_in_front (g.C.MapClass.choice_limits c.args.size.now) (g.C.MapClass.samples c.args.size.now) c.in_ok-found.found c.in_ok-found.ensures.0 c.in_ok-found.ensures.1
-          c.entries_go_on.ensures c.maps.place front.0 (g.O.Sink.holds c.args.out.now) (g.O.Sink.holds c.maps.out) (g.O.Sink.holds c.write.new.self) c.in_ok-text.text.items
+      entry_in_prefix (g.C.MapClass.choice_limits c.args.size.now) (g.C.MapClass.samples c.args.size.now) c.in_ok-found.found c.in_ok-found.ensures.0 c.in_ok-found.ensures.1
+          c.entries_go_on.ensures c.maps.place prefix.0 (g.O.Sink.holds c.args.out.now) (g.O.Sink.holds c.maps.out) (g.O.Sink.holds c.write.new.self) c.in_ok-text.text.items
           (place_within c.in_ok-found.found c.maps.place c.map.result.now c.map.ensures)
           (subst (λ (entries : List (RotationSystem × ℕ)). AreWritten (IsCensusRecord entries) c.maps.place (g.O.Sink.holds c.args.out.now) (g.O.Sink.holds c.maps.out)) c.found.view_is
           c.maps.invariant.so_far) is_record
-          (front.1 ∙ ap (λ (t : List ℕ). added (g.O.Sink.holds c.maps.out) (take front.0 t)) c.deref.ensures.value),
+          (prefix.1 ∙ ap (λ (t : List ℕ). added (g.O.Sink.holds c.maps.out) (take prefix.0 t)) c.deref.ensures.value),
       subst (λ (f : ℕ). FaultsRose f (g.O.Sink.faults c.write.new.self)) c.maps.invariant.calm c.in_err-write.ensures.cause,
     ) c.from_residual-in_err-write.result c.from_residual-in_err-write.ensures.1
 

@@ -7,7 +7,7 @@ use Rattle.pm_cli.specs.declared.refusal.Stop.TheVariants.{Write, Memory}
 use Rattle.pm_cli.specs.Drawing.{IsRecord, IsDrawnRecord, Draws}
 use Rattle.pm_cli.specs.Records.{HasFirstRecords}
 use Rattle.pm_cli.specs.steps.Streams.{IsWritingRecords}
-use Rattle.pm_cli.proofs.Records.{none_written, first_written, one_more_written, next_in_front, first_in_front}
+use Rattle.pm_cli.proofs.Records.{none_written, first_written, one_more_written, next_in_prefix, first_in_prefix}
 use Rattle.pm_cli.proofs.Refusals.{stopped_as}
 use Rattle.pm_cli.proofs.WholeDrawings.{none_drawn, one_more_drawn}
 use Rattle.pm_cli.proofs.draw.draw.Goals as goal
@@ -32,15 +32,15 @@ pub returns-in_err-write : goal.returns-in_err-write
 returns-in_err-write g c =
     let is_record = subst (λ (bounds : List ℕ). IsRecord (g.C.MapClass.samples c.args.size.now) (drawn bounds (words_of c.records.rng)).0 c.in_ok-record.record.items)
     c.in_ok-bounds.ensures c.in_ok-record.ensures.record in
-    let front = c.in_err-write.ensures.front in
+    let prefix = c.in_err-write.ensures.prefix in
     stopped_as (IsWritingRecords (Draws (g.C.MapClass.choice_limits c.args.size.now) (g.C.MapClass.samples c.args.size.now) c.args.seed c.args.count)
     (HasFirstRecords (IsDrawnRecord (g.C.MapClass.choice_limits c.args.size.now) (g.C.MapClass.samples c.args.size.now) c.args.seed) c.args.count)
     (g.O.Sink.holds c.args.out.now) (g.O.Sink.holds c.write.new.self) (g.O.Sink.faults c.args.out.now) (g.O.Sink.faults c.write.new.self)) Write (
-      next_in_front (IsDrawnRecord (g.C.MapClass.choice_limits c.args.size.now) (g.C.MapClass.samples c.args.size.now) c.args.seed) (c.records_go_on.ensures c.args.seed) c.records._place
-          c.args.count front.0 (g.O.Sink.holds c.args.out.now) (g.O.Sink.holds c.records.out) (g.O.Sink.holds c.write.new.self) c.in_ok-record.record.items
+      next_in_prefix (IsDrawnRecord (g.C.MapClass.choice_limits c.args.size.now) (g.C.MapClass.samples c.args.size.now) c.args.seed) (c.records_go_on.ensures c.args.seed) c.records._place
+          c.args.count prefix.0 (g.O.Sink.holds c.args.out.now) (g.O.Sink.holds c.records.out) (g.O.Sink.holds c.write.new.self) c.in_ok-record.record.items
           c.records-test.true c.records.invariant.so_far
           (subst (λ (stream : Stream). IsRecord (g.C.MapClass.samples c.args.size.now) (drawn (g.C.MapClass.choice_limits c.args.size.now) stream).0 c.in_ok-record.record.items) c.records.invariant.left is_record)
-          (front.1 ∙ ap (λ (t : List ℕ). added (g.O.Sink.holds c.records.out) (take front.0 t)) c.deref.ensures.value),
+          (prefix.1 ∙ ap (λ (t : List ℕ). added (g.O.Sink.holds c.records.out) (take prefix.0 t)) c.deref.ensures.value),
       subst (λ (f : ℕ). FaultsRose f (g.O.Sink.faults c.write.new.self)) c.records.invariant.calm c.in_err-write.ensures.cause,
     ) c.from_residual-in_err-write.result c.from_residual-in_err-write.ensures.1
 
@@ -62,7 +62,7 @@ pub returns-in_err-flush : goal.returns-in_err-flush
 returns-in_err-flush g c = stopped_as (IsWritingRecords (Draws (g.C.MapClass.choice_limits c.args.size.now) (g.C.MapClass.samples c.args.size.now) c.args.seed c.args.count)
     (HasFirstRecords (IsDrawnRecord (g.C.MapClass.choice_limits c.args.size.now) (g.C.MapClass.samples c.args.size.now) c.args.seed) c.args.count)
     (g.O.Sink.holds c.args.out.now) (g.O.Sink.holds c.flush.new.self) (g.O.Sink.faults c.args.out.now) (g.O.Sink.faults c.flush.new.self)) Write (
-      first_in_front (IsDrawnRecord (g.C.MapClass.choice_limits c.args.size.now) (g.C.MapClass.samples c.args.size.now) c.args.seed) (c.records_go_on.ensures c.args.seed) c.records._place
+      first_in_prefix (IsDrawnRecord (g.C.MapClass.choice_limits c.args.size.now) (g.C.MapClass.samples c.args.size.now) c.args.seed) (c.records_go_on.ensures c.args.seed) c.records._place
           c.args.count (g.O.Sink.holds c.args.out.now) (g.O.Sink.holds c.records.out) (g.O.Sink.holds c.flush.new.self) (omega arith) c.records.invariant.so_far c.flush.ensures.stays,
       subst (λ (f : ℕ). FaultsRose f (g.O.Sink.faults c.flush.new.self)) c.records.invariant.calm c.in_err-flush.ensures.cause,
     ) c.from_residual-in_err-flush.result c.from_residual-in_err-flush.ensures.1

@@ -7,7 +7,7 @@ use Rattle.pm_cli.proofs.writing.write_text.Goals as goal
 pub returns-in_err-write : goal.returns-in_err-write
 returns-in_err-write g c = record {
   written = stopped_as (IsWriting _ _ _ _ _) Write
-      (c.in_err-write.ensures.front, c.in_err-write.ensures.cause) c.from_residual.result c.from_residual.ensures.1;
+      (c.in_err-write.ensures.prefix, c.in_err-write.ensures.cause) c.from_residual.result c.from_residual.ensures.1;
 }
 
 pub returns-in_err-flush : goal.returns-in_err-flush

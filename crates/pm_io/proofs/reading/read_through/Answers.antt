@@ -2,14 +2,14 @@ use Rattle.std.proofs.Common.{◌≡◌, ℕ, ◌+◌, ◌≤◌, length, OnErr,
 use Rattle.std.proofs.lemmas.List.{length-take-le}
 use Rattle.pm_io.specs.Bytes.{without}
 use Rattle.pm_io.proofs.BytesLemmas.{without-without}
-use Rattle.pm_io.proofs.Turns.{front-more, front-all}
+use Rattle.pm_io.proofs.Turns.{prefix-more, prefix-all}
 use Rattle.pm_io.proofs.reading.read_through.Goals as goal
 
 pub returns-then-count-eq0-clause-whole : goal.returns-then-count-eq0-clause-whole
 returns-then-count-eq0-clause-whole g c =
     let read = rw (c.turns.invariant.rest, c.if-count-eq0.true) at c.in-Ok.ensures.bytes in
     let after = rw (c.turns.invariant.rest, c.if-count-eq0.true) at c.in-Ok.ensures.taken in
-    front-all _ _ _ c.read_some.new.buf _ c.turns.invariant.front read after
+    prefix-all _ _ _ c.read_some.new.buf _ c.turns.invariant.prefix read after
 
 pub returns-then-limit-len-clause-rest : goal.returns-then-limit-len-clause-rest
 returns-then-limit-len-clause-rest g c =
@@ -29,7 +29,7 @@ turns-preserved g c =
     record {
       some = search rules;
       within = search rules;
-      front = rw (c.in_ok-extend_from_slice.ensures.items, longer) (front-more _ _ _ c.read_some.new.buf _ c.turns.invariant.front read);
+      prefix = rw (c.in_ok-extend_from_slice.ensures.items, longer) (prefix-more _ _ _ c.read_some.new.buf _ c.turns.invariant.prefix read);
       rest = rw longer (after ∙ without-without _ _ _);
       calm = search rules;
     }

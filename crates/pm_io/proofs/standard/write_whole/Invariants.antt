@@ -1,4 +1,4 @@
--- A front of the piece was added, and what is left to write is the rest of it.
+-- A prefix of the piece was added, and what is left to write is the rest of it.
 use Rattle.std.proofs.Common.{length}
 use Rattle.pm_io.proofs.Writes.{IsWritten}
 use Rattle.pm_io.proofs.standard.write_whole.Given as goal

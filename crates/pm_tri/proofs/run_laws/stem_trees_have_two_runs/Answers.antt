@@ -1,4 +1,4 @@
-use Rattle.pm_tri.proofs.Fronts.{balanced_below}
+use Rattle.pm_tri.proofs.Prefixes.{balanced_below}
 use Rattle.pm_tri.proofs.RunStarts.{two_runs}
 use Rattle.pm_tri.proofs.RunTurns.{run_start_balances, run_starts_turned}
 use Rattle.pm_tri.proofs.run_laws.stem_trees_have_two_runs.Goals as goal

@@ -14,8 +14,8 @@ pub unplant-requires-clause-leaf : goal.unplant-requires-clause-leaf
 unplant-requires-clause-leaf c =
     old_plant_low (eulerian_class c.args.size.now c.requires.size.0) c.args.map.now c.args.residue.now c.edges-edges.ensures.valid c.requires.size.1 (eulerian_parts c.args.size.now c.args.residue.now c.requires.valid)
 
-pub front_of-requires-clause-made : goal.front_of-requires-clause-made
-front_of-requires-clause-made c =
+pub prefix_of-requires-clause-made : goal.prefix_of-requires-clause-made
+prefix_of-requires-clause-made c =
     let r = eulerian_parts c.args.size.now c.args.residue.now c.requires.valid in
     unplanted_is_made (eulerian_class c.args.size.now c.requires.size.0) c.args.map.now r.rest r.old_plant c.in_ok-unplanted.unplanted.tree c.in_ok-unplanted.unplanted.free
     c.edges-edges.ensures.valid c.requires.size.1 r.valid c.in_ok-unplanted.ensures

@@ -18,11 +18,11 @@ unplant-requires-clause-leaf c =
     old_plant_low (quartic_class c.args.size.now (quartic_size c.args.map.now c.args.size.now c.edges-edges.ensures.valid c.requires.size)) c.args.map.now c.args.residue.now c.edges-edges.ensures.valid c.requires.size
     (quartic_parts c.args.size.now c.args.residue.now c.requires.valid)
 
-pub front_of-requires-clause-size : goal.front_of-requires-clause-size
-front_of-requires-clause-size c = quartic_size c.args.map.now c.args.size.now c.edges-edges.ensures.valid c.requires.size
+pub prefix_of-requires-clause-size : goal.prefix_of-requires-clause-size
+prefix_of-requires-clause-size c = quartic_size c.args.map.now c.args.size.now c.edges-edges.ensures.valid c.requires.size
 
-pub front_of-requires-clause-made : goal.front_of-requires-clause-made
-front_of-requires-clause-made c =
+pub prefix_of-requires-clause-made : goal.prefix_of-requires-clause-made
+prefix_of-requires-clause-made c =
     let r = quartic_parts c.args.size.now c.args.residue.now c.requires.valid in
     unplanted_is_made (quartic_class c.args.size.now (quartic_size c.args.map.now c.args.size.now c.edges-edges.ensures.valid c.requires.size)) c.args.map.now r.rest r.old_plant c.in_ok-unplanted.unplanted.tree c.in_ok-unplanted.unplanted.free
     c.edges-edges.ensures.valid c.requires.size r.valid c.in_ok-unplanted.ensures

@@ -1,7 +1,7 @@
 use Rattle.std.proofs.Common.{◌≡◌, ℕ, List, pos, subst, sym, ◌∙◌, FitsSigned, w64, to_z, of_z, rules, arith}
 use Rattle.std.proofs.lemmas.Int.{ints}
 use Rattle.pm_map.specs.Structure.{IsConnected}
-use Rattle.pm_map.specs.Plane.{euler_number}
+use Rattle.pm_map.specs.Plane.{euler_characteristic}
 use Rattle.pm_map.specs.steps.ReachAnswers.{IsReachAnswer, IsReachedWhole}
 use Rattle.pm_map.specs.Rotation.{structure_of}
 use Rattle.pm_map.proofs.EulerLemmas.{euler_two, euler_other}
@@ -16,9 +16,9 @@ from_rooted_rotation-requires c =
     let connected : IsConnected (structure_of (record { sigma = c.args.sigma.items; root = c.args.root })) =
     subst (λ (x : List ℕ). IsConnected (structure_of (record { sigma = x; root = c.args.root }))) same answer.connected in
     let deref : c.deref-2.result.now ≡ c.args.sigma.items = search rules in
-    let counted : c.euler_number-euler.result ≡ euler_number (structure_of (record { sigma = c.args.sigma.items; root = c.args.root })) =
-    subst (λ (x : List ℕ). c.euler_number-euler.result ≡ euler_number (structure_of (record { sigma = x; root = c.args.root }))) deref c.euler_number-euler.ensures in
-    let two : c.euler_number-euler.result ≡ pos 2 = search (rules, c.if-euler-ne2.false) in
+    let counted : c.euler_characteristic-euler.result ≡ euler_characteristic (structure_of (record { sigma = c.args.sigma.items; root = c.args.root })) =
+    subst (λ (x : List ℕ). c.euler_characteristic-euler.result ≡ euler_characteristic (structure_of (record { sigma = x; root = c.args.root }))) deref c.euler_characteristic-euler.ensures in
+    let two : c.euler_characteristic-euler.result ≡ pos 2 = search (rules, c.if-euler-ne2.false) in
     record {
       even = c.requires.even;
       few = c.requires.few;
@@ -35,14 +35,14 @@ returns-then-euler-ne2 c =
     let here = structure_of (record { sigma = c.args.sigma.items; root = c.args.root }) in
     let connected : IsConnected here = subst (λ (x : List ℕ). IsConnected (structure_of (record { sigma = x; root = c.args.root }))) same answer.connected in
     let deref : c.deref-2.result.now ≡ c.args.sigma.items = search rules in
-    let counted : c.euler_number-euler.result ≡ euler_number here =
-    subst (λ (x : List ℕ). c.euler_number-euler.result ≡ euler_number (structure_of (record { sigma = x; root = c.args.root }))) deref c.euler_number-euler.ensures in
-    let fits : FitsSigned w64 c.euler_number-euler.result = search rules in
-    let back : to_z w64 (of_z w64 c.euler_number-euler.result) ≡ c.euler_number-euler.result = omega (arith, ints, fits) in
+    let counted : c.euler_characteristic-euler.result ≡ euler_characteristic here =
+    subst (λ (x : List ℕ). c.euler_characteristic-euler.result ≡ euler_characteristic (structure_of (record { sigma = x; root = c.args.root }))) deref c.euler_characteristic-euler.ensures in
+    let fits : FitsSigned w64 c.euler_characteristic-euler.result = search rules in
+    let back : to_z w64 (of_z w64 c.euler_characteristic-euler.result) ≡ c.euler_characteristic-euler.result = omega (arith, ints, fits) in
     record {
       few = c.requires.few;
       permutes = c.requires.permutation;
       connected = connected;
       number = back ∙ counted;
-      other = euler_other here c.euler_number-euler.result counted (search (rules, c.if-euler-ne2.true));
+      other = euler_other here c.euler_characteristic-euler.result counted (search (rules, c.if-euler-ne2.true));
     }

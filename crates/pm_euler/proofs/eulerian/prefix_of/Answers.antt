@@ -6,8 +6,8 @@ use Rattle.pm_planting.specs.Kinds.{halves_in}
 use Rattle.pm_planting.specs.declared.kind.Kind.{Kind}
 use Rattle.pm_planting.specs.declared.kind.Kind.TheVariants.{Leaf}
 use Rattle.pm_euler.specs.Objects.{ranges_of}
-use Rattle.pm_euler.proofs.EulerianMade.{front_read, objects_owed, objects_total, objects_turned, objects_within, start_within}
-use Rattle.pm_euler.proofs.eulerian.front_of.Goals as goal
+use Rattle.pm_euler.proofs.EulerianMade.{prefix_read, objects_owed, objects_total, objects_turned, objects_within, start_within}
+use Rattle.pm_euler.proofs.eulerian.prefix_of.Goals as goal
 
 pub objects_of_codes-requires : goal.objects_of_codes-requires
 objects_of_codes-requires c =
@@ -54,8 +54,8 @@ returns c =
     let objects : List ℕ = c.in_ok-objects.objects.items in
     let read = read_again c.deref-2.result.now (ranges_of c.args.size.now) c.deref-3.result.now (halves_in c.in_ok-kinds.kinds.items) (take (length c.args.rest.now - 1) (drop 1 c.args.rest.now)) c.in_ok-objects.objects.items
     (c.deref-2.ensures.value ∙ c.in_ok-ranges.ensures) (c.deref-3.ensures.value ∙ c.in_ok-halves.ensures ∙ ap halves_in c.deref.ensures.value) c.in_ok-objects.ensures in
-    let code_is = c.in_ok-front.ensures.code ∙ ap code_of (c.deref-7.ensures.value ∙ c.in_ok-arrangement.ensures ∙ ap (λ (os : List ℕ). turned (length os - slice_index c.args.rest.now 0) os) c.deref-6.ensures.value) in
-    front_read c.args.size.now c.in_ok-kinds.kinds.items c.args.tree.now c.args.rest.now c.requires.size c.requires.made c.in_ok-kinds.ensures c.in_ok-objects.objects.items read c.in_ok-ranks.ranks.items c.extend_from_slice.new.self.items
+    let code_is = c.in_ok-prefix.ensures.code ∙ ap code_of (c.deref-7.ensures.value ∙ c.in_ok-arrangement.ensures ∙ ap (λ (os : List ℕ). turned (length os - slice_index c.args.rest.now 0) os) c.deref-6.ensures.value) in
+    prefix_read c.args.size.now c.in_ok-kinds.kinds.items c.args.tree.now c.args.rest.now c.requires.size c.requires.made c.in_ok-kinds.ensures c.in_ok-objects.objects.items read c.in_ok-ranks.ranks.items c.extend_from_slice.new.self.items
     (c.in_ok-ranks.ensures.as_many ∙ c.nodes_of.ensures.nodes)
     (λ k half rank less e.
     ap (λ (os : List ℕ). slice_index c.in_ok-ranks.ranks.items (slice_index os k)) (sym c.deref-5.ensures.value)
