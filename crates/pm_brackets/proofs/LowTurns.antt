@@ -10,7 +10,7 @@ use Rattle.pm_brackets.specs.Ring.{place_from, IsTurned}
 use Rattle.pm_brackets.specs.steps.TurnedLetter.{IsTurnedLetter}
 use Rattle.pm_brackets.proofs.Lows.{IsLow, low_start, low_other, low_open, low_close, low_sinks, back_other, back_close, back_open, back_sinks, no_opener_before, no_opener_behind, no_closer_behind, no_closer_before}
 use Rattle.pm_brackets.proofs.RingPlaces.{mod_stays, are_at, plain_letter}
-use Rattle.pm_brackets.proofs.Replants.{prefix_end}
+use Rattle.pm_brackets.proofs.Replants.{ring_of_letters}
 
 -- The letters of the word up to here are turned, behind the start.
 pub record IsAfter (plant : ℕ) (word : List ℕ) (start : ℕ) (letters : List ℕ) (i above : ℕ) : Type 0 where
@@ -286,17 +286,14 @@ module _ (plant : ℕ) (bare : IsOther plant) (word : List ℕ) (start : ℕ) (w
 
   pub turned_whole : (letters : List ℕ) (above : ℕ) → IsMatched word → IsBefore plant word start letters 0 above → IsTurned (plant ∷ word) start (plant ∷ letters)
   turned_whole letters above m h =
-      prefix_end plant bare word start letters (suc (length word)) m (omega arith) here (record {
-        as_long = ap suc h.as_long;
-        each = λ k u.
-            let long = h.as_long in
-            elim (cases_lt (start + k) (length word)) [
-              | inl l ↦ h.after k l
-              | inr g ↦ elim (cases_lt (length word) (start + k)) [
-                | inl l ↦ h.done k (omega (arith, long)) (omega arith)
-                | inr le ↦
-                    let e : place_from (plant ∷ word) start (suc k) ≡ 0 = let f = on_second (suc k) (omega arith) (omega (arith, long)) in omega (arith, f) in
-                    plain_letter (plant ∷ word) start (suc k) (slice_index letters k) (subst (λ (j : ℕ). IsOther (slice_index (plant ∷ word) j)) (sym e) bare) (h.rest k (omega (arith, long)) g (omega arith))
-              ]
-            ];
-      }) refl
+      ring_of_letters plant bare word start letters m (omega arith) here h.as_long (λ k u.
+      let long = h.as_long in
+      elim (cases_lt (start + k) (length word)) [
+        | inl l ↦ h.after k l
+        | inr g ↦ elim (cases_lt (length word) (start + k)) [
+          | inl l ↦ h.done k (omega (arith, long)) (omega arith)
+          | inr le ↦
+              let e : place_from (plant ∷ word) start (suc k) ≡ 0 = let f = on_second (suc k) (omega arith) (omega (arith, long)) in omega (arith, f) in
+              plain_letter (plant ∷ word) start (suc k) (slice_index letters k) (subst (λ (j : ℕ). IsOther (slice_index (plant ∷ word) j)) (sym e) bare) (h.rest k (omega (arith, long)) g (omega arith))
+        ]
+      ])

@@ -1,8 +1,6 @@
 -- Words that are planted anew, at another place of their plant's letter: each can be in one way, the places are numbered from
 -- the new plant on, and planting at the old plant undoes it.
-use Rattle.std.proofs.Common.{◌≡◌, ℕ, zero, suc, ◌+◌, ◌%◌, ◌<◌, inl, inr, List, [], ◌∷◌, ◌++◌, length, take, drop, slice_index, refl, ap, sym, ◌∙◌, subst, arith}
-use Rattle.std.proofs.lemmas.Bool.{cases_lt}
-use Rattle.std.proofs.lemmas.List.{length_push, get_or_push, get_or_append_left}
+use Rattle.std.proofs.Common.{◌≡◌, ℕ, zero, suc, ◌+◌, ◌%◌, ◌<◌, List, [], ◌∷◌, length, take, drop, slice_index, refl, ap, sym, ◌∙◌, subst, arith}
 use Rattle.pm_brackets.specs.declared.letters.TheConstants.{OPEN, CLOSE}
 use Rattle.pm_brackets.specs.Word.{IsOther, IsMatched, IsLetterAt, count}
 use Rattle.pm_brackets.specs.Ring.{place_from, number_after, IsTurned, IsReplantedAt}
@@ -41,11 +39,6 @@ matched_inside plant bare word m = record {
       omega (arith, n, a, b, c, d, f, g);
 }
 
--- the letters that were met so far
-pub record IsTurnedPrefix (plant : ℕ) (word : List ℕ) (start : ℕ) (letters : List ℕ) (steps : ℕ) : Type 0 where
-  pub as_long : suc (length letters) ≡ steps
-  pub each : (k : ℕ) → k < length letters → IsTurnedLetter (plant ∷ word) start (suc k) (slice_index letters k)
-
 module _ (plant : ℕ) (bare : IsOther plant) where
   pub same_rings : (word one two : List ℕ) (start : ℕ) → IsMatched word → start < length (plant ∷ word) → IsTurned (plant ∷ word) start one → IsTurned (plant ∷ word) start two → one ≡ two
   same_rings word one two start o l s t =
@@ -63,41 +56,20 @@ module _ (plant : ℕ) (bare : IsOther plant) where
   ring_of_word [] l e = absurd (omega arith)
   ring_of_word (x ∷ xs) l e = ap (λ (y : ℕ). y ∷ xs) e
 
-  pub prefix_start : (word : List ℕ) (start : ℕ) (letters : List ℕ) (steps : ℕ) → letters ≡ [] → steps ≡ 1 → IsTurnedPrefix plant word start letters steps
-  prefix_start word start letters steps e f =
-      subst (λ (xs : List ℕ). IsTurnedPrefix plant word start xs steps) (sym e) (record { as_long = omega arith; each = λ k l. absurd (omega arith) })
-
-  pub prefix_push : (word : List ℕ) (start : ℕ) (letters more : List ℕ) (steps next x : ℕ) → IsTurnedPrefix plant word start letters steps → IsTurnedLetter (plant ∷ word) start steps x → more ≡ letters ++ x ∷ [] → next ≡ suc steps → IsTurnedPrefix plant word start more next
-  prefix_push word start letters more steps next x h t e f =
-      let a = h.as_long in
-      let b = length_push letters x in
-      subst (λ (xs : List ℕ). IsTurnedPrefix plant word start xs next) (sym e) (record {
-        as_long = omega (arith, a, b, f);
-        each = λ k l.
-            elim (cases_lt k (length letters)) [
-              | inl m ↦ subst (IsTurnedLetter (plant ∷ word) start (suc k)) (sym (get_or_append_left letters (x ∷ []) 0 k m)) (h.each k m)
-              | inr m ↦
-                  let here : length letters ≡ k = omega (arith, b, l) in
-                  let there : steps ≡ suc k = omega (arith, a, here) in
-                  let P : ℕ → Type 0 = λ i. IsTurnedLetter (plant ∷ word) start i x in
-                  subst (IsTurnedLetter (plant ∷ word) start (suc k)) (sym (get_or_push letters x 0 k here)) (subst P there t)
-            ];
-      })
-
-  prefix_letter : (word : List ℕ) (start : ℕ) (letters : List ℕ) (steps p : ℕ) → start < length (plant ∷ word) → slice_index (plant ∷ word) start ≡ plant → IsTurnedPrefix plant word start letters steps → p < steps → IsTurnedLetter (plant ∷ word) start p (slice_index (plant ∷ letters) p)
-  prefix_letter word start letters steps zero l here h m =
+  letter_of_ring : (word : List ℕ) (start : ℕ) (letters : List ℕ) (p : ℕ) → start < length (plant ∷ word) → slice_index (plant ∷ word) start ≡ plant → ((k : ℕ) → k < length letters → IsTurnedLetter (plant ∷ word) start (suc k) (slice_index letters k)) → p < length (plant ∷ letters) → IsTurnedLetter (plant ∷ word) start p (slice_index (plant ∷ letters) p)
+  letter_of_ring word start letters zero l here h m =
       let e : start + 0 ≡ start = omega arith in
       let f : place_from (plant ∷ word) start 0 ≡ start = ap (λ (k : ℕ). k % length (plant ∷ word)) e ∙ mod_stays start (length (plant ∷ word)) l in
       let g : slice_index (plant ∷ word) (place_from (plant ∷ word) start 0) ≡ plant = ap (slice_index (plant ∷ word)) f ∙ here in
       plain_letter (plant ∷ word) start 0 plant (record { not_open = λ o. bare.not_open (sym g ∙ o); not_close = λ o. bare.not_close (sym g ∙ o) }) (sym g)
-  prefix_letter word start letters steps (suc k) l here h m = h.each k (let a = h.as_long in omega arith)
+  letter_of_ring word start letters (suc k) l here h m = h k (omega arith)
 
-  pub prefix_end : (word : List ℕ) (start : ℕ) (letters : List ℕ) (steps : ℕ) → IsMatched word → start < length (plant ∷ word) → slice_index (plant ∷ word) start ≡ plant → IsTurnedPrefix plant word start letters steps → steps ≡ length (plant ∷ word) → IsTurned (plant ∷ word) start (plant ∷ letters)
-  prefix_end word start letters steps o l here h e =
+  -- a word whose letters are each those that are met from the start on
+  pub ring_of_letters : (word : List ℕ) (start : ℕ) (letters : List ℕ) → IsMatched word → start < length (plant ∷ word) → slice_index (plant ∷ word) start ≡ plant → length letters ≡ length word → ((k : ℕ) → k < length letters → IsTurnedLetter (plant ∷ word) start (suc k) (slice_index letters k)) → IsTurned (plant ∷ word) start (plant ∷ letters)
+  ring_of_letters word start letters o l here long h =
       let b = bracketing_exists plant bare word o in
       let t = ring_turned (λ ring. Unit {0}) none_stays plant bare word start o tt in
-      let a = h.as_long in
-      let same = one_ring (plant ∷ word) b.0 (plant ∷ letters) t.ring start b.1 (omega arith) (omega (arith, a, e)) (λ p m. prefix_letter word start letters steps p l here h (omega arith)) t.turned in
+      let same = one_ring (plant ∷ word) b.0 (plant ∷ letters) t.ring start b.1 (omega arith) (ap suc long) (λ p m. letter_of_ring word start letters p l here h (omega (arith, long))) t.turned in
       subst (IsTurned (plant ∷ word) start) (sym same) t.turned
 
 -- the laws, of a plant that is no letter of those past the end

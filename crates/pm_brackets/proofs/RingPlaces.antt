@@ -1,5 +1,5 @@
 -- The places of a ring that is read from a place on, its letters and its brackets.
-use Rattle.std.proofs.Common.{◌≡◌, ◌⊎◌, ℕ, ◌+◌, ◌-◌, ◌%◌, ◌≤◌, ◌<◌, inl, inr, List, length, slice_index, refl, ap, ap₂, sym, ◌∙◌, subst, arith}
+use Rattle.std.proofs.Common.{◌≡◌, ◌⊎◌, ℕ, ◌+◌, ◌-◌, ◌%◌, ◌≤◌, ◌<◌, inl, inr, List, length, slice_index, refl, ap, sym, ◌∙◌, subst, arith}
 use Rattle.std.proofs.lemmas.Bool.{cases_eq, cases_order}
 use Rattle.std.proofs.lemmas.List.{ext_get_or}
 use Rattle.std.proofs.Math.Nat.{add-mod-mod, mod-add-mod, add-mod_right}
@@ -141,33 +141,6 @@ plain_letter xs start p x o e = record {
   opens = λ q _ _ a. absurd (no_other xs (place_from xs start p) (place_from xs start q) o a);
   closes = λ q _ a. absurd (no_other xs (place_from xs start p) (place_from xs start q) o a);
 }
-
--- a bracket, by the steps to its other
-pub bracket_letter : (xs other : List ℕ) (start p across x : ℕ) → IsBracketing xs other → start < length xs → p < length xs → (IsOther (slice_index xs (place_from xs start p)) → ⊥)
-    → across ≡ (slice_index other (place_from xs start p) + length xs - start) % length xs → (p < across → x ≡ OPEN) → (across ≤ p → x ≡ CLOSE) → IsTurnedLetter xs start p x
-bracket_letter xs other start p across x b l m n e first second =
-    let there : (q : ℕ) → q < length xs → AreBrackets xs (place_from xs start p) (place_from xs start q) → across ≡ q = λ q k a.
-    elim (other_of xs other (place_from xs start p) b (mod_under (start + p) (length xs) (omega arith))) [
-      | inl o ↦ absurd (n o)
-      | inr h ↦
-          let same : slice_index other (place_from xs start p) ≡ place_from xs start q = one_other xs (place_from xs start p) (slice_index other (place_from xs start p)) (place_from xs start q) h a in
-          let sum : slice_index other (place_from xs start p) + length xs - start ≡ place_from xs start q + (length xs - start) = omega (arith, same) in
-          e ∙ ap (λ (i : ℕ). i % length xs) sum ∙ sym (steps_to_is (length xs) start (place_from xs start q)) ∙ steps_are (length xs) start q (omega arith) k
-    ] in
-    record {
-      kept = λ a c. absurd (n (record { not_open = a; not_close = c }));
-      opens = λ q k i a. first (let f = there q i a in omega arith);
-      closes = λ q k a. second (let f = there q (omega arith) a in omega arith);
-    }
-
--- the same, as it is computed
-pub letter_by_steps : (xs other : List ℕ) (start p n place across letter x : ℕ) → IsBracketing xs other → n ≡ length xs → start < n → p < n → place ≡ (start + p) % n → letter ≡ slice_index xs place → ((letter ≡ OPEN) ⊎ (letter ≡ CLOSE))
-    → across ≡ (slice_index other place + n - start) % n → (p < across → x ≡ OPEN) → (across ≤ p → x ≡ CLOSE) → IsTurnedLetter xs start p x
-letter_by_steps xs other start p n place across letter x b e l m f g h i first second =
-    let here : place ≡ place_from xs start p = f ∙ ap (λ (k : ℕ). (start + p) % k) e in
-    let same : letter ≡ slice_index xs (place_from xs start p) = g ∙ ap (slice_index xs) here in
-    let there : across ≡ (slice_index other (place_from xs start p) + length xs - start) % length xs = i ∙ ap₂ (λ (k j : ℕ). (slice_index other k + j - start) % j) here e in
-    bracket_letter xs other start p across x b (omega arith) (omega arith) (λ o. elim h [ inl w ↦ o.not_open (sym same ∙ w) | inr w ↦ o.not_close (sym same ∙ w) ]) there first second
 
 -- there is one such ring
 pub one_ring : (xs other one two : List ℕ) (start : ℕ) → IsBracketing xs other → start ≤ length xs → length one ≡ length xs → ((p : ℕ) → p < length xs → IsTurnedLetter xs start p (slice_index one p)) → IsTurned xs start two → one ≡ two

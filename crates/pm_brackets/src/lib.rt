@@ -14,7 +14,7 @@ pub use faults::first_fault;
 pub use letter_places::{letters_before, nth_letter, occurrences};
 pub use letters::{CLOSE, OPEN, letter_at};
 pub use noting::noted;
-pub use turning::{turned, turned_from};
+pub use turning::turned;
 
 #[cfg(test)]
 mod tests;

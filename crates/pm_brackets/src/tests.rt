@@ -6,7 +6,7 @@ use std::alloc::{AllocError, Global};
 use std::test::Fail;
 
 /// The word planted at its `s` of this number, which is 0 for the plant; none where the text isn't in order, or has no such
-/// letter. It is turned in both ways, and none where they differ.
+/// letter.
 fn planted(alloc: Global, word: &[u8], number: u32) -> Result<Option<Vec<u8>>, AllocError>
     requires { length word.now < 2 ^ 30 }
 {
@@ -14,13 +14,7 @@ fn planted(alloc: Global, word: &[u8], number: u32) -> Result<Option<Vec<u8>>, A
         return Ok(None);
     }
     let start = nth_letter(word, b's', number);
-    let other = other_brackets(alloc, word)?;
-    let letters = turned(alloc, b's', word, &other, start)?;
-    if turned_from(alloc, b's', word, start)? == letters {
-        Ok(Some(letters))
-    } else {
-        Ok(None)
-    }
+    Ok(Some(turned(alloc, b's', word, start)?))
 }
 
 #[test]

@@ -5,7 +5,6 @@ ghost use Rattle.pm_lehmer.specs.Lehmer.{IsArrangementCode};
 ghost use Rattle.pm_map.specs.Classes.{IsEulerian};
 ghost use Rattle.pm_map.specs.Rotation.{structure_of};
 ghost use Rattle.pm_trees.specs.Pairs.{IsProfile, edges_of};
-ghost use Rattle.pm_class.specs.Sampling.{IsSampledUnnamed};
 ghost use Rattle.pm_lists.specs.Valid.{IsValidList};
 ghost use Rattle.pm_euler.specs.Bounds.{eulerian_choices, eulerian_prefixes, eulerian_residues, eulerian_rests};
 ghost use Rattle.pm_objects.specs.Preorder.{ArePreordered};

@@ -1,7 +1,6 @@
 //! Quartic maps: each vertex has degree 4.
 ghost use Rattle.std.specs.Prelude.{◌≡◌, ◌+◌, ◌↔◌, IfOk, IsTrue};
 ghost use Rattle.pm_limits.specs.declared.TheConstants.{MAX_EDGES};
-ghost use Rattle.pm_class.specs.Sampling.{IsSampledUnnamed};
 ghost use Rattle.pm_lists.specs.Valid.{IsValidList};
 ghost use Rattle.pm_map.specs.ClassRules.{IsQuarticAnswer};
 ghost use Rattle.pm_map.specs.Classes.{IsQuartic};

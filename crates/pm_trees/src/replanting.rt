@@ -7,7 +7,7 @@ ghost use Rattle.pm_trees.specs.Replanting.{IsAlike};
 use crate::leaf_places::leaf_place;
 use crate::letters::LEAF;
 use crate::tree::Tree;
-use pm_brackets::turned_from;
+use pm_brackets::turned;
 use std::alloc::{AllocError, Global};
 
 /// The same plane tree, planted at the leaf of this number, which is below the number of leaves: leaves are numbered from 0
@@ -25,6 +25,6 @@ pub fn replant(alloc: Global, tree: &Tree, leaf: u32) -> Result<Tree, AllocError
     ensures alike { IfOk result (λ replanted. IsAlike tree.now replanted) }
 {
     let start = leaf_place(tree, leaf);
-    let letters = turned_from(alloc, LEAF, tree.letters(), start)?;
+    let letters = turned(alloc, LEAF, tree.letters(), start)?;
     Ok(Tree { letters })
 }

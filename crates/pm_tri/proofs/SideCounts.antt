@@ -12,7 +12,7 @@ use Rattle.pm_brackets.proofs.LetterTurns.{seen_all}
 use Rattle.pm_brackets.proofs.Levels.{seen, seen_no, seen_none, seen_yes}
 use Rattle.pm_brackets.proofs.Tally.{tally_is, tally_no}
 use Rattle.pm_tri.specs.declared.letters.TheConstants.{STEM}
-use Rattle.pm_tri.specs.Sides.{is_side, is_stem, letter, sides, stem_steps}
+use Rattle.pm_tri.specs.Sides.{is_side, is_stem_at, letter, sides, stem_steps}
 use Rattle.pm_tri.specs.StemTree.{IsInOrder, IsStemTree, contour}
 use Rattle.pm_tri.proofs.StemCounts.{stems_count}
 use Rattle.pm_tri.proofs.StemLetters.{letter_is_stem, stem_is_other}
@@ -22,7 +22,7 @@ pub up : List ℕ → ℕ → ℕ
 up places k = count_below (is_side places) k
 
 pub down : List ℕ → ℕ → ℕ
-down places k = count_below (is_stem places) k
+down places k = count_below (is_stem_at places) k
 
 pub up_is : (places : List ℕ) (k : ℕ) → up places k ≡ sides places 0 k
 unfolding up
@@ -30,7 +30,7 @@ up_is places k = count_below-same (is_side places) (λ i. is_side places (0 + i)
 
 pub down_is : (places : List ℕ) (k : ℕ) → down places k ≡ stem_steps places 0 k
 unfolding down
-down_is places k = count_below-same (is_stem places) (λ i. is_stem places (0 + i)) k (λ i l. ap (is_stem places) (omega arith))
+down_is places k = count_below-same (is_stem_at places) (λ i. is_stem_at places (0 + i)) k (λ i l. ap (is_stem_at places) (omega arith))
 
 pub up_none : (places : List ℕ) → up places 0 ≡ 0
 unfolding up
@@ -47,7 +47,7 @@ up_stretch places from many = count_below-add (is_side places) from many
 
 pub down_stretch : (places : List ℕ) (from many : ℕ) → down places (from + many) ≡ down places from + stem_steps places from many
 unfolding down
-down_stretch places from many = count_below-add (is_stem places) from many
+down_stretch places from many = count_below-add (is_stem_at places) from many
 
 -- a side at the place
 pub record IsSideAt (places : List ℕ) (k : ℕ) : Type 0 where
@@ -86,7 +86,7 @@ side_step places k (inl e) =
     record {
       no_stem = no;
       more = one_more (is_side places) k (rw (eq-eqb (letter places k) OPEN e) refl);
-      same = none_more (is_stem places) k (ne_eqb (letter places k) STEM no);
+      same = none_more (is_stem_at places) k (ne_eqb (letter places k) STEM no);
     }
 side_step places k (inr e) =
     let no : letter places k ≡ STEM → ⊥ = λ f. omega (arith, e, f) in
@@ -94,7 +94,7 @@ side_step places k (inr e) =
     record {
       no_stem = no;
       more = one_more (is_side places) k (rw (ne_eqb (letter places k) OPEN other, eq-eqb (letter places k) CLOSE e) refl);
-      same = none_more (is_stem places) k (ne_eqb (letter places k) STEM no);
+      same = none_more (is_stem_at places) k (ne_eqb (letter places k) STEM no);
     }
 
 pub stem_step : (places : List ℕ) (k : ℕ) → letter places k ≡ STEM → IsStemAt places k
@@ -105,7 +105,7 @@ stem_step places k e =
     record {
       stem = e;
       same = none_more (is_side places) k (rw (ne_eqb (letter places k) OPEN open', ne_eqb (letter places k) CLOSE close) refl);
-      more = one_more (is_stem places) k (eq-eqb (letter places k) STEM e);
+      more = one_more (is_stem_at places) k (eq-eqb (letter places k) STEM e);
     }
 
 -- each letter of a stem tree's contour is a bracket or a stem
@@ -143,9 +143,9 @@ again_down : (places : List ℕ) (k : ℕ) → down places (k + length places) �
 unfolding down
 again_down places k =
     let e : k + length places ≡ length places + k = omega arith in
-    let a = ap (count_below (is_stem places)) e in
-    let b = count_below-add (is_stem places) (length places) k in
-    let c = count_below-same (λ i. is_stem places (length places + i)) (is_stem places) k (λ i l. ap (λ (x : ℕ). x == STEM) (letter_again places i)) in
+    let a = ap (count_below (is_stem_at places)) e in
+    let b = count_below-add (is_stem_at places) (length places) k in
+    let c = count_below-same (λ i. is_stem_at places (length places + i)) (is_stem_at places) k (λ i l. ap (λ (x : ℕ). x == STEM) (letter_again places i)) in
     omega (arith, a, b, c)
 
 -- the letters of a prefix, by letter

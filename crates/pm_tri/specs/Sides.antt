@@ -12,8 +12,8 @@ letter places k = slice_index places (k % length places)
 abbrev pub is_side : List ℕ → ℕ → Bool
 is_side places k = (letter places k == OPEN) || (letter places k == CLOSE)
 
-abbrev pub is_stem : List ℕ → ℕ → Bool
-is_stem places k = letter places k == STEM
+abbrev pub is_stem_at : List ℕ → ℕ → Bool
+is_stem_at places k = letter places k == STEM
 
 -- how many of so many places, from one of them on, are sides
 abbrev pub sides : List ℕ → ℕ → ℕ → ℕ
@@ -21,4 +21,4 @@ sides places from many = count_below (λ k. is_side places (from + k)) many
 
 -- and how many are stems
 abbrev pub stem_steps : List ℕ → ℕ → ℕ → ℕ
-stem_steps places from many = count_below (λ k. is_stem places (from + k)) many
+stem_steps places from many = count_below (λ k. is_stem_at places (from + k)) many

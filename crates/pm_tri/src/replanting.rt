@@ -5,7 +5,7 @@ ghost use Rattle.pm_tri.specs.StemTree.{nodes};
 
 use crate::letters::STEM;
 use crate::tree::TriTree;
-use pm_brackets::{nth_letter, other_brackets, turned};
+use pm_brackets::{nth_letter, turned};
 use std::alloc::{AllocError, Global};
 
 /// The same plane tree, planted at the stem of this number, which is below twice the number of nodes: stems are numbered
@@ -24,7 +24,6 @@ pub fn tri_replant(alloc: Global, tree: &TriTree, stem: u32) -> Result<TriTree, 
 {
     let word = tree.letters();
     let start = nth_letter(word, STEM, stem);
-    let other = other_brackets(alloc, word)?;
-    let letters = turned(alloc, STEM, word, &other, start)?;
+    let letters = turned(alloc, STEM, word, start)?;
     Ok(TriTree { letters })
 }

@@ -1,10 +1,6 @@
 use Rattle.pm_tri.specs.declared.letters.TheConstants.{STEM}
 use Rattle.pm_tri.proofs.Replants.{alike_from, stem_few}
-use Rattle.pm_tri.proofs.StemLetters.{stem_is_other}
 use Rattle.pm_tri.proofs.replanting.tri_replant.Goals as goal
-
-pub turned-requires-clause-bracketing : goal.turned-requires-clause-bracketing
-turned-requires-clause-bracketing c = let h = c.in_ok-other.ensures STEM stem_is_other in rw (c.deref.ensures.value) h
 
 pub invariant_of-result : goal.invariant_of-result
 invariant_of-result c =
