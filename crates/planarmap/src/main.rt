@@ -4,6 +4,11 @@
 //! where there is none, a line to standard error.
 #![tactic(auto)]
 
+#[cfg(test)]
+mod limit_tests;
+#[cfg(test)]
+mod tests;
+
 use pm_io::{StdSinkErr, StdSinkOut, StdSource};
 use std::process::ExitCode;
 use std::rt::Env;

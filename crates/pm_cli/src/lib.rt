@@ -34,8 +34,3 @@ pub use laws::{
 };
 pub use refusal::{Limit, MapRule, Refusal, Stop, TreeRule};
 pub use words::MAX_RECORDS;
-
-#[cfg(test)]
-mod limit_tests;
-#[cfg(test)]
-mod tests;

@@ -1,5 +1,5 @@
 //! Runs over streams in memory. The bytes were worked out apart from the code.
-use crate::{
+use pm_cli::{
     opening_undoes_closing, run, sampling_undoes_unsampling, words_and_bytes_have_one_answer,
 };
 use pm_io::{MemSink, MemSource};

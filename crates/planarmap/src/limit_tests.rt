@@ -1,8 +1,8 @@
 //! Files beyond the limits, and large ones.
 ghost use Rattle.std.specs.Prelude.{◌<◌, ◌^◌};
 
-use crate::run;
 use crate::tests::{Faults, NONE, run_on};
+use pm_cli::run;
 use pm_io::{Failed, MemSink, Source};
 use pm_text::put_number;
 use std::alloc::{AllocError, Global};
