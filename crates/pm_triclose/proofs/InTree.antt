@@ -16,19 +16,19 @@ use Rattle.pm_triclose.proofs.WholeOf.{IsWholeOf}
 
 module _ (places all : List ℕ) (last start : ℕ) (w : IsWholeOf places all last start) where
   -- the place behind one of the whole tree
-  next_in : (q : ℕ) → suc q < last + 4 → suc q % length all ≡ suc q
+  pub next_in : (q : ℕ) → suc q < last + 4 → suc q % length all ≡ suc q
   next_in q l = let wide = w.wide in mod_stays (suc q) (length all) (omega (arith, wide, l))
 
-  first_again : (q : ℕ) → q ≡ last + 3 → suc q % length all ≡ 0
+  pub first_again : (q : ℕ) → q ≡ last + 3 → suc q % length all ≡ 0
   first_again q e =
       let wide = w.wide in
       let f : suc q ≡ 0 + length all = omega (arith, wide, e) in
       ap (λ (k : ℕ). k % length all) f ∙ add-mod_right 0 (length all) ∙ mod_stays 0 (length all) (omega (arith, wide))
 
-  place_next : (q : ℕ) → suc q ≤ last → suc q % length places ≡ suc q
+  pub place_next : (q : ℕ) → suc q ≤ last → suc q % length places ≡ suc q
   place_next q l = let long = w.long in mod_stays (suc q) (length places) (omega (arith, long, l))
 
-  root_next : suc last % length places ≡ 0
+  pub root_next : suc last % length places ≡ 0
   root_next =
       let long = w.long in
       let f : suc last ≡ 0 + length places = omega (arith, long) in
