@@ -1,8 +1,13 @@
+mod AheadOrder
 mod AheadStems
+mod DartKeys
 mod InTree
 mod InWhole
+mod NestedDarts
 mod Numbers
 mod TreeDarts
+mod TreeRing
 mod WholeBrackets
 mod WholeClosures
 mod WholeOf
+mod WholePlane

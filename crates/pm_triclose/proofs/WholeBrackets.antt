@@ -77,7 +77,7 @@ module _ (places all : List ℕ) (last start : ℕ) (w : IsWholeOf places all la
       pair_from_even all last (last + 3) (omega arith) w.first w.fourth (subst (IsEven all last) g (even_pair all last (last + 1) (last + 2) (omega arith) (omega arith) w.second w.third
       (subst (IsEven all last) e (even_start all last)) (subst (IsEven all (last + 1)) f (even_start all (last + 1)))))
 
-  new_brackets : (p : ℕ) → IsNew last p → (q : ℕ) × AreBrackets all p q × (p + q ≡ 2 * last + 3)
+  pub new_brackets : (p : ℕ) → IsNew last p → (q : ℕ) × AreBrackets all p q × (p + q ≡ 2 * last + 3)
   new_brackets p (at_first e) = (last + 3, subst (λ (k : ℕ). AreBrackets all k (last + 3)) (sym e) (inl outer), omega (arith, e))
   new_brackets p (at_second e) = (last + 2, subst (λ (k : ℕ). AreBrackets all k (last + 2)) (sym e) (inl inner), omega (arith, e))
   new_brackets p (at_third e) = (last + 1, subst (λ (k : ℕ). AreBrackets all k (last + 1)) (sym e) (inr inner), omega (arith, e))
