@@ -1,5 +1,6 @@
 mod AheadOrder
 mod AheadStems
+mod CountedDarts
 mod DartKeys
 mod InTree
 mod InWhole

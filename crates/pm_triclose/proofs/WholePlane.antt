@@ -79,7 +79,7 @@ module _ (places : List ℕ) (across ends : ℕ → ℕ) (w : IsStemRing places 
   unfolding at_brackets
   brackets_name d l = name_after (bracket across) (bracket_named places across ends w) (bracket_back places across ends w) d l
 
-  stems_name : (d : ℕ) → d < s.darts → name (at_stems d) ≡ stem_pair places (name d)
+  pub stems_name : (d : ℕ) → d < s.darts → name (at_stems d) ≡ stem_pair places (name d)
   unfolding at_stems
   stems_name d l = name_after (stem_pair places) (stem_named places across ends w) (stem_back places across ends w) d l
 
