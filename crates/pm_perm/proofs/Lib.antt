@@ -18,7 +18,6 @@ pub mod LeastLemmas
 pub mod Merged
 pub mod Nested
 pub mod PairCounts
-pub mod PairEnds
 pub mod PartMaps
 pub mod PartPairs
 mod Parted

@@ -5,7 +5,7 @@ use Rattle.pm_perm.specs.Count.{count_below}
 use Rattle.pm_perm.specs.Cycles.{cycles}
 use Rattle.pm_perm.specs.Pairs.{pairs}
 use Rattle.pm_perm.proofs.Counts.{count_below-all, count_below-into, count_below-parts}
-use Rattle.pm_perm.proofs.PairEnds.{IsOneEnd, pairs-one_end}
+use Rattle.pm_triclose.proofs.PairEnds.{IsOneEnd, pairs-one_end}
 use Rattle.pm_map.specs.Structure.{Structure, face_next}
 use Rattle.pm_tri.specs.declared.letters.TheConstants.{STEM}
 use Rattle.pm_triclose.specs.Closure.{AreNumbers, AreTwins, Dart, a_to_b, at_place, b_to_a, twin_of}

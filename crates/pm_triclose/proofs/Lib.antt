@@ -6,6 +6,7 @@ mod InTree
 mod InWhole
 mod NestedDarts
 mod Numbers
+mod PairEnds
 mod TreeDarts
 mod TreeRing
 mod WholeBrackets
