@@ -1,5 +1,5 @@
 -- How many darts, vertices and faces the closure of a whole tree has.
-use Rattle.std.proofs.Common.{◌≡◌, ◌≢◌, ◌⊎◌, ℕ, zero, suc, ◌+◌, ◌*◌, ◌<◌, ◌≤◌, Bool, true, false, not, cond, eqb, inl, inr, List, length, slice_index, refl, ap, ◌∙◌, sym, subst, arith, eq-eqb, ne_eqb}
+use Rattle.std.proofs.Common.{◌≡◌, ◌≢◌, ℕ, ◌+◌, ◌*◌, ◌<◌, Bool, true, false, not, cond, eqb, inl, inr, List, length, slice_index, refl, ap, ◌∙◌, sym, arith, eq-eqb}
 use Rattle.std.proofs.lemmas.Bool.{cases_eq, eqb-true}
 use Rattle.pm_perm.specs.Count.{count_below}
 use Rattle.pm_perm.specs.Cycles.{cycles}
@@ -11,8 +11,8 @@ use Rattle.pm_tri.specs.declared.letters.TheConstants.{STEM}
 use Rattle.pm_triclose.specs.Closure.{AreNumbers, AreTwins, Dart, a_to_b, at_place, b_to_a, twin_of}
 use Rattle.pm_triclose.specs.WholeClosure.{FollowsWhole, IsWholeDart}
 use Rattle.pm_triclose.proofs.AheadOrder.{IsStemRing}
-use Rattle.pm_triclose.proofs.DartKeys.{at_bracket, at_stem, stem_named, stem_pair, stem_within}
-use Rattle.pm_triclose.proofs.WholePlane.{at_brackets, at_stems, face_cycles, name, name_back, named, number_back, pairs_half, stems_involution, stems_name, vertex_cycles}
+use Rattle.pm_triclose.proofs.DartKeys.{at_bracket, at_stem, stem_pair, stem_within}
+use Rattle.pm_triclose.proofs.WholePlane.{at_stems, face_cycles, name, name_back, named, number_back, pairs_half, stems_involution, stems_name, vertex_cycles}
 
 -- the twin of a stem's, not a place
 abbrev pub is_twin : Dart → Bool

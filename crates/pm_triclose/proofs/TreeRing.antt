@@ -7,20 +7,16 @@ use Rattle.pm_brackets.specs.declared.letters.TheConstants.{OPEN, CLOSE}
 use Rattle.pm_brackets.proofs.Bracketed.{bracketing_exists}
 use Rattle.pm_brackets.proofs.Levels.{inside}
 use Rattle.pm_brackets.proofs.RingPlaces.{mod_stays}
-use Rattle.pm_map.specs.Plane.{IsPlane}
-use Rattle.pm_map.specs.Structure.{Structure}
 use Rattle.pm_tri.specs.declared.letters.TheConstants.{STEM}
 use Rattle.pm_tri.specs.Runs.{IsBalanced}
 use Rattle.pm_tri.specs.StemTree.{IsStemTree, contour}
 use Rattle.pm_tri.specs.Whole.{IsAhead, whole}
 use Rattle.pm_tri.proofs.RunStarts.{two_runs}
 use Rattle.pm_tri.proofs.SideCounts.{each_letter}
-use Rattle.pm_triclose.specs.WholeClosure.{IsWholeClosure}
 use Rattle.pm_triclose.proofs.AheadOrder.{IsStemRing}
 use Rattle.pm_triclose.proofs.AheadStems.{old_stem, stem_old}
 use Rattle.pm_triclose.proofs.WholeBrackets.{IsNew, at_first, at_fourth, at_second, at_third, is_new, new_brackets, old_brackets}
 use Rattle.pm_triclose.proofs.WholeOf.{IsClosed, IsWholeOf, at_side, in_other, in_plants, second_start, whole_of}
-use Rattle.pm_triclose.proofs.WholePlane.{plane}
 
 module _ (places all : List ℕ) (last start : ℕ) (w : IsWholeOf places all last start) where
   -- each stem closes ahead
@@ -123,9 +119,3 @@ tree_ring word t b =
             | inl side ↦ inl (elim side [ inl o ↦ inl (e ∙ o) | inr c ↦ inr (e ∙ c) ])
           ]);
     }
-
--- so its closure is plane
-pub whole_plane : (word : List ℕ) (s : Structure) → IsStemTree word → IsBalanced (contour word) → IsWholeClosure (contour (whole word)) s → IsPlane s
-whole_plane word s t b c =
-    let r = tree_ring word t b in
-    plane (contour (whole word)) r.across r.ends r.ring s c.0 c.1

@@ -11,7 +11,7 @@ use Rattle.pm_triclose.proofs.WholeOf.{IsWholeOf}
 
 -- in two lists with the same letters so far, pairs so far are the same
 module _ (xs ys : List ℕ) (n : ℕ) (same : (k : ℕ) → k < n → slice_index xs k ≡ slice_index ys k) where
-  seen_alike : (x : ℕ) → 0 < x → (k : ℕ) → k ≤ n → seen x xs k ≡ seen x ys k
+  pub seen_alike : (x : ℕ) → 0 < x → (k : ℕ) → k ≤ n → seen x xs k ≡ seen x ys k
   seen_alike x some zero l = seen_none x xs ∙ sym (seen_none x ys)
   seen_alike x some (suc k) l =
       let before = seen_alike x some k (omega arith) in

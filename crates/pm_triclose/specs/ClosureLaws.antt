@@ -1,8 +1,10 @@
 -- The laws of closures.
-use Rattle.std.specs.Prelude.{ℕ, ◌↔◌, List}
+use Rattle.std.specs.Prelude.{◌≡◌, ℕ, ◌+◌, ◌*◌, ◌↔◌, List}
+use Rattle.pm_map.specs.Plane.{IsPlane, edges, faces, vertices}
+use Rattle.pm_map.specs.Rotation.{IsRootedMap, RotationSystem, structure_of}
 use Rattle.pm_map.specs.Structure.{Structure}
 use Rattle.pm_tri.specs.Runs.{IsBalanced}
-use Rattle.pm_tri.specs.StemTree.{IsStemTree, contour}
+use Rattle.pm_tri.specs.StemTree.{IsStemTree, contour, nodes}
 use Rattle.pm_tri.specs.Whole.{whole}
 use Rattle.pm_triclose.specs.Closure.{IsStemClosure}
 use Rattle.pm_triclose.specs.WholeClosure.{IsWholeClosure}
@@ -10,3 +12,19 @@ use Rattle.pm_triclose.specs.WholeClosure.{IsWholeClosure}
 -- a structure is the closure of a balanced stem tree exactly where it is that of its whole tree
 abbrev pub ClosuresAreWhole : Type 0
 ClosuresAreWhole = (word : List ℕ) (s : Structure) → IsStemTree word → IsBalanced (contour word) → (IsStemClosure (contour word) s ↔ IsWholeClosure (contour (whole word)) s)
+
+-- a plane structure with 3n edges, n + 2 vertices and 2n faces
+pub record IsPlaneOfSize (s : Structure) (n : ℕ) : Type 0 where
+  pub plane : IsPlane s
+  pub darts_are : s.darts ≡ 6 * n
+  pub edges_are : edges s ≡ 3 * n
+  pub vertices_are : vertices s ≡ n + 2
+  pub faces_are : faces s ≡ 2 * n
+
+-- the closure of a tree with n nodes is one
+abbrev pub ClosuresArePlane : Type 0
+ClosuresArePlane = (word : List ℕ) (s : Structure) → IsStemTree word → IsBalanced (contour word) → IsStemClosure (contour word) s → IsPlaneOfSize s (nodes word)
+
+-- so a rotation and a root whose structure is the closure are a rooted map
+abbrev pub ClosuresAreMaps : Type 0
+ClosuresAreMaps = (word : List ℕ) (map : RotationSystem) → IsStemTree word → IsBalanced (contour word) → IsStemClosure (contour word) (structure_of map) → IsRootedMap map

@@ -1,3 +1,4 @@
+pub mod Closing
 pub mod Closure
 pub mod ClosureLaws
 pub mod WholeClosure

@@ -27,3 +27,7 @@ FollowsWhole places b_to_a dart = ⊥
 -- the closure of a whole tree
 abbrev pub IsWholeClosure : List ℕ → Structure → Type 0
 IsWholeClosure places s = (number : Dart → ℕ) × AreNumbers (IsWholeDart places) (FollowsWhole places) (AreTwins places) s number
+
+-- each stem closes ahead
+abbrev pub ClosesAhead : List ℕ → Type 0
+ClosesAhead places = (x : ℕ) → slice_index places x ≡ STEM → (q : ℕ) × IsAhead places x q

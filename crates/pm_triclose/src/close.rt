@@ -1,0 +1,51 @@
+//! Closing a stem tree to a map.
+ghost use Rattle.std.specs.Prelude.{◌≡◌};
+ghost use Rattle.pm_triclose.specs.Closing.{IsTriClosing};
+ghost use Rattle.pm_triclose.specs.declared.close.TriCloseRefusal.TheVariants.{Memory};
+
+use crate::closing::whole_rotation;
+use pm_map::RootedMap;
+use pm_tri::{Imbalance, TriTree, why_not_balanced};
+use std::alloc::{AllocError, Global};
+
+/// Why a stem tree wasn't closed, in the order in which the rules are tried.
+#[derive(Clone, Copy, Debug, PartialEq, Eq)]
+pub enum TriCloseRefusal {
+    /// There is no memory left. It may come at any tree.
+    Memory,
+    /// The plant closes: at the side at this place of the contour.
+    Closes { side: u32 },
+    /// The plant is free, and doesn't directly follow the free stem before it, which stands at this place of the contour.
+    Follows { stem: u32 },
+}
+
+impl From<AllocError> for TriCloseRefusal {
+    ghost from_gives = { λ _ refusal. refusal ≡ Memory };
+
+    fn from(_: AllocError) -> TriCloseRefusal {
+        TriCloseRefusal::Memory
+    }
+}
+
+/// The closure of a balanced stem tree (Poulalhon and Schaeffer 2006), in time linear in its letters. The root is dart 0. Edges
+/// are numbered in the order of their first places along the contour, and the first place of the k-th edge, from 0, is dart
+/// `2k`; the last edge is that between the two vertices that are added. A tree with `n` nodes gets `3n` edges.
+///
+/// # Errors
+///
+/// Where the tree isn't balanced: `Closes` exactly where its plant closes, with the side, and `Follows` exactly where the plant is
+/// free and doesn't directly follow a free stem, with the free stem before it. `Memory` may come at any tree.
+pub fn tri_close(alloc: Global, tree: &TriTree) -> Result<RootedMap, TriCloseRefusal>
+    ensures { IsTriClosing tree.now result }
+{
+    match why_not_balanced(tree) {
+        Some(Imbalance::Closes { side }) => Err(TriCloseRefusal::Closes { side }),
+        Some(Imbalance::Follows { stem }) => Err(TriCloseRefusal::Follows { stem }),
+        None => {
+            // Its contract says that they are those of a stem tree.
+            let _letters = tree.letters();
+            let sigma = whole_rotation(alloc, tree)?;
+            Ok(RootedMap::from_rooted_rotation(sigma, 0))
+        }
+    }
+}
