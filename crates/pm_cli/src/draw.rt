@@ -38,7 +38,10 @@ fn draw_record<C: MapClass>(
     let sample = C::sample_unnamed(alloc, size, choices.values())?;
     let mut text = Vec::new(alloc);
     put_list(alloc, b"choices", &choices, &mut text)?;
-    text.extend_from_slice(&sample_text(alloc, &sample)?)?;
+    drop(choices);
+    let rest = sample_text(alloc, &sample)?;
+    drop(sample);
+    text.extend_from_slice(&rest)?;
     Ok(text)
 }
 

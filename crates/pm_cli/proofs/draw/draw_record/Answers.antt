@@ -10,7 +10,7 @@ returns-clause-record g c =
     let sampled = subst (λ (list : List ℕ). IsSampledUnnamed (g.C.MapClass.choice_limits c.args.size.now) (g.C.MapClass.residue_limits c.args.size.now) (g.C.MapClass.has c.args.size.now) (samples list) list c.in_ok-sample.sample)
     c.values.ensures c.in_ok-sample.ensures in
     record_made samples _ c.in_ok-choices.choices c.new-text.result.items c.put_list.new.text.items
-    c.in_ok-sample_text.field-0.items c.extend_from_slice.new.self.items c.in_ok-choices.ensures.drawn c.in_ok-put_list.ensures.read_again
-    (unnamed_text (g.C.MapClass.choice_limits c.args.size.now) (g.C.MapClass.residue_limits c.args.size.now) (g.C.MapClass.has c.args.size.now) samples c.in_ok-choices.choices c.in_ok-sample.sample c.in_ok-sample_text.field-0.items sampled c.in_ok-sample_text.ensures)
+    c.in_ok-rest.rest.items c.extend_from_slice.new.self.items c.in_ok-choices.ensures.drawn c.in_ok-put_list.ensures.read_again
+    (unnamed_text (g.C.MapClass.choice_limits c.args.size.now) (g.C.MapClass.residue_limits c.args.size.now) (g.C.MapClass.has c.args.size.now) samples c.in_ok-choices.choices c.in_ok-sample.sample c.in_ok-rest.rest.items sampled c.in_ok-rest.ensures)
     c.new-text.ensures.items c.in_ok-put_list.ensures.text
     (c.in_ok-extend_from_slice.ensures.items ∙ ap (λ (t : List ℕ). c.put_list.new.text.items ++ t) c.deref.ensures.value)
