@@ -19,3 +19,4 @@ pub mod SomeAnswer
 pub mod ReadAgainLemmas
 pub mod CanonicalTexts
 pub mod TextLengths
+pub mod TwinPrintLemmas

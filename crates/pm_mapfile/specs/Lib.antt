@@ -1,5 +1,9 @@
 pub mod MapText
 pub mod MapFile
+pub mod ProfileText
+pub mod ClassText
+pub mod TwinText
+pub mod TwinFile
 pub mod Vertices
 pub mod Answers
 pub mod ReadAgain

@@ -3,7 +3,7 @@ use Rattle.std.specs.Prelude.{◌≡◌, ℕ, ◌*◌, ◌<◌, ◌^◌, List, [
 use Rattle.std.specs.List.{concat}
 use Rattle.pm_text.specs.Broken.{newline}
 use Rattle.pm_lists.specs.ListLine.{AreWords, list_line}
-use Rattle.pm_mapfile.specs.MapText.{map_line, vertex_lines}
+use Rattle.pm_mapfile.specs.MapText.{vertices_text}
 
 -- what the lines of a map text say: the number of edges, the root, and the darts on the line of each vertex
 pub record MapLines : Type 0 where
@@ -33,7 +33,7 @@ pub record AreMapLines (m : MapLines) : Type 0 where
 
 -- the bytes that say so: the first line, a line for each vertex, and the line `end`
 abbrev pub lines_text : MapLines → List ℕ
-lines_text m = map_line m.edges m.root ++ vertex_lines m.vertices ++ codes "end\n"
+lines_text m = vertices_text m.edges m.root m.vertices ++ codes "end\n"
 
 -- a map text, and anything after it
 pub record BeginsWithMapText (bytes : List ℕ) : Type 0 where

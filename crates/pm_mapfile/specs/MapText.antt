@@ -18,9 +18,13 @@ vertex_lines (vertex ∷ vertices) = vertex_line vertex ++ vertex_lines vertices
 abbrev pub map_line : ℕ → ℕ → List ℕ
 map_line edges root = codes "map " ++ decimal edges ++ 32 ∷ [] ++ decimal root ++ 10 ∷ []
 
+-- the line of the number of edges and the root, and the lines of vertices in this order
+abbrev pub vertices_text : ℕ → ℕ → List (List ℕ) → List ℕ
+vertices_text edges root vertices = map_line edges root ++ vertex_lines vertices
+
 -- the text of a map with its vertices in this order
 abbrev pub map_text : RotationSystem → List (List ℕ) → List ℕ
-map_text m vertices = map_line (length m.sigma / 2) m.root ++ vertex_lines vertices ++ codes "end\n"
+map_text m vertices = vertices_text (length m.sigma / 2) m.root vertices ++ codes "end\n"
 
 -- the text of the map: its vertices stand in the order of the meeting list, each from the dart at which it is met
 pub record IsMapText (m : RotationSystem) (text : List ℕ) : Type 0 where

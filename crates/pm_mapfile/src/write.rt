@@ -1,6 +1,6 @@
 ghost use Rattle.std.specs.Prelude.{◌≡◌, ◌*◌, ◌≤◌, ◌++◌, codes, length, sum, IfOk, OnOk, OnErr};
 ghost use Rattle.pm_lists.specs.Numbers.{spaced_numbers};
-ghost use Rattle.pm_mapfile.specs.MapText.{map_line, vertex_line, vertex_lines, HasCanonicalText, HasOneText, IsMapText, AppendsMapText};
+ghost use Rattle.pm_mapfile.specs.MapText.{map_line, vertex_line, vertex_lines, vertices_text, HasCanonicalText, HasOneText, IsMapText, AppendsMapText};
 ghost use Rattle.pm_mapfile.specs.steps.Printed.{cut};
 
 use itoa::write_digits;
@@ -57,8 +57,8 @@ pub fn canonical_bytes(alloc: Global, map: &RootedMap) -> Result<Vec<u8>, AllocE
     list_bytes(alloc, map.edges(), 0, &list.darts, &list.sizes)
 }
 
-/// The text of a map with this root, where `darts` are those of all vertices, one vertex after another, and `sizes` tell
-/// how many each has.
+// The text of a map with this root, where `darts` are those of all vertices, one vertex after another, and `sizes` tell
+// how many each has.
 fn list_bytes(
     alloc: Global,
     edges: u32,
@@ -67,14 +67,29 @@ fn list_bytes(
     sizes: &[u32],
 ) -> Result<Vec<u8>, AllocError>
     requires { sum sizes.now ≡ length darts.now }
-    ensures { IfOk result (λ bytes. bytes.items ≡ map_line edges root ++ vertex_lines (cut sizes.now darts.now) ++ codes "end\n") }
+    ensures { IfOk result (λ bytes. bytes.items ≡ vertices_text edges root (cut sizes.now darts.now) ++ codes "end\n") }
 {
     // Most darts take no more than eight bytes, with their space and their share of the other bytes of a line.
     let mut text = Vec::with_capacity(alloc, 16 * edges as usize + 64)?;
-    put_first_line(alloc, edges, root, &mut text)?;
-    put_vertices(alloc, darts, sizes, &mut text)?;
+    put_vertices_text(alloc, edges, root, darts, sizes, &mut text)?;
     text.extend_from_slice(b"end\n")?;
     Ok(text)
+}
+
+// Appends the first line and the lines of all vertices, told as above.
+pub(crate) fn put_vertices_text(
+    alloc: Global,
+    edges: u32,
+    root: u32,
+    darts: &[u32],
+    sizes: &[u32],
+    text: &mut Vec<u8>,
+) -> Result<(), AllocError>
+    requires { sum sizes.now ≡ length darts.now }
+    ensures { OnOk result (text.new.items ≡ text.old.items ++ vertices_text edges root (cut sizes.now darts.now)) }
+{
+    put_first_line(alloc, edges, root, text)?;
+    put_vertices(alloc, darts, sizes, text)
 }
 
 /// Appends the line of the number of edges and the root.
