@@ -20,3 +20,4 @@ pub mod ReadAgainLemmas
 pub mod CanonicalTexts
 pub mod TextLengths
 pub mod TwinPrintLemmas
+pub mod NamingLemmas

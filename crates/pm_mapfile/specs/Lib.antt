@@ -4,6 +4,7 @@ pub mod ProfileText
 pub mod ClassText
 pub mod TwinText
 pub mod TwinFile
+pub mod TwinNames
 pub mod Vertices
 pub mod Answers
 pub mod ReadAgain

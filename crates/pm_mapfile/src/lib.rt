@@ -5,6 +5,7 @@ mod answer;
 mod class_line;
 mod file;
 mod laws;
+mod naming;
 mod numbers;
 mod read;
 mod refusal;
