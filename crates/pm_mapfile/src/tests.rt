@@ -1,7 +1,7 @@
 //! Worked texts.
 use crate::{
-    ClassLine, FileRefusal, canonical_bytes, map_bytes, put_map, put_map2, read_map, read_map_file,
-    read_sample_file,
+    ClassLine, FileRefusal, PairList, canonical_bytes, map_bytes, put_map, put_map2, read_map,
+    read_map_file, read_sample_file,
 };
 use pm_canon::same;
 use pm_lists::{NumList, put_list};
@@ -394,5 +394,18 @@ fn text_with_twins_of_no_dart(rt: HostRuntime) -> Result<(), Fail> {
         text.as_slice(),
         b"planarmap 2\nclass general 0\nmap 0 0\nend\n".as_slice()
     );
+    Ok(())
+}
+
+#[test]
+fn class_line_of_pairs(rt: HostRuntime) -> Result<(), Fail> {
+    let sigma = Vec::from_slice(rt.alloc(), &[0, 1])?;
+    let answer = RootedMap::from_parts(rt.alloc(), sigma, 0);
+    assert!(rt; answer.is_ok());
+    let Ok(map) = answer else { return Ok(()) };
+    let pairs = PairList::of(vec![in rt.alloc(); (2u64, 1u64), (4, 300)]?);
+    let mut text = Vec::new(rt.alloc());
+    put_map2(rt.alloc(), &map, &ClassLine::Bipartite(pairs), &mut text)?;
+    assert!(rt; text.starts_with(b"planarmap 2\nclass bipartite 2:1,4:300\nmap 1 0\n"));
     Ok(())
 }
