@@ -18,10 +18,10 @@ pub record IsStemRing (places : List ℕ) (across ends : ℕ → ℕ) : Type 0 w
   pub closes : (x : ℕ) → slice_index places x ≡ STEM → IsAhead places x (ends x)
 
 module _ (places : List ℕ) (across ends : ℕ → ℕ) (w : IsStemRing places across ends) where
-  turn : (p : ℕ) → p < length places → letter places p ≡ slice_index places p
+  pub turn : (p : ℕ) → p < length places → letter places p ≡ slice_index places p
   turn p l = ap (slice_index places) (mod_stays p (length places) l)
 
-  step : (p : ℕ) → p < length places → IsSideAt places p ⊎ IsStemAt places p
+  pub step : (p : ℕ) → p < length places → IsSideAt places p ⊎ IsStemAt places p
   step p l = elim (w.letters p l) [
     | inl side ↦ inl (side_step places p (elim side [ inl o ↦ inl (turn p l ∙ o) | inr c ↦ inr (turn p l ∙ c) ]))
     | inr stem ↦ inr (stem_step places p (turn p l ∙ stem))
@@ -59,7 +59,7 @@ module _ (places : List ℕ) (across ends : ℕ → ℕ) (w : IsStemRing places 
     later zero i e = let z : sides places (suc x) 0 ≡ 0 = refl in absurd (omega (arith, z, e))
     later (suc steps) i e = omega (arith, i)
 
-  ahead_held : (x q k : ℕ) → IsAhead places x q → x < k → k ≤ q → up places k + down places x ≤ up places x + down places k
+  pub ahead_held : (x q k : ℕ) → IsAhead places x q → x < k → k ≤ q → up places k + down places x ≤ up places x + down places k
   ahead_held x q k a l m =
       let i = a.is in
       let s = stem_at x q a in
@@ -67,7 +67,7 @@ module _ (places : List ℕ) (across ends : ℕ → ℕ) (w : IsStemRing places 
       let h = held_to x q a (k - suc x) (omega (arith, i, l, m)) in
       omega (arith, h, ap (up places) e, ap (down places) e, up_stretch places (suc x) (k - suc x), down_stretch places (suc x) (k - suc x), s.same, s.more)
 
-  ahead_rises : (x q : ℕ) → IsAhead places x q → up places (suc q) + down places x ≡ up places x + down places (suc q) + 1
+  pub ahead_rises : (x q : ℕ) → IsAhead places x q → up places (suc q) + down places x ≡ up places x + down places (suc q) + 1
   ahead_rises x q a =
       let i = a.is in
       let s = stem_at x q a in

@@ -6,6 +6,8 @@ mod Closings
 mod CountedDarts
 mod DartKeys
 mod DartNumbers
+mod FaceCorners
+mod FaceTriangles
 mod InTree
 mod InWhole
 mod Links

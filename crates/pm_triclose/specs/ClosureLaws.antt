@@ -1,8 +1,9 @@
 -- The laws of closures.
-use Rattle.std.specs.Prelude.{◌≡◌, ℕ, ◌+◌, ◌*◌, ◌↔◌, List}
+use Rattle.std.specs.Prelude.{◌≡◌, ℕ, ◌+◌, ◌*◌, ◌<◌, ◌↔◌, List}
+use Rattle.pm_map.specs.CycleSize.{IsCycleSize}
 use Rattle.pm_map.specs.Plane.{IsPlane, edges, faces, vertices}
 use Rattle.pm_map.specs.Rotation.{IsRootedMap, RotationSystem, structure_of}
-use Rattle.pm_map.specs.Structure.{Structure}
+use Rattle.pm_map.specs.Structure.{Structure, dual}
 use Rattle.pm_tri.specs.Runs.{IsBalanced}
 use Rattle.pm_tri.specs.StemTree.{IsStemTree, contour, nodes}
 use Rattle.pm_tri.specs.Whole.{whole}
@@ -28,3 +29,7 @@ ClosuresArePlane = (word : List ℕ) (s : Structure) → IsStemTree word → IsB
 -- so a rotation and a root whose structure is the closure are a rooted map
 abbrev pub ClosuresAreMaps : Type 0
 ClosuresAreMaps = (word : List ℕ) (map : RotationSystem) → IsStemTree word → IsBalanced (contour word) → IsStemClosure (contour word) (structure_of map) → IsRootedMap map
+
+-- each face of the closure has degree 3
+abbrev pub ClosureFacesAreTriangles : Type 0
+ClosureFacesAreTriangles = (word : List ℕ) (s : Structure) → IsStemTree word → IsBalanced (contour word) → IsStemClosure (contour word) s → (d : ℕ) → d < s.darts → IsCycleSize (dual s).next d 3
