@@ -22,7 +22,8 @@ IsDart places (twin_of stem) = slice_index places stem ≡ STEM
 IsDart places a_to_b = ⊤
 IsDart places b_to_a = ⊤
 
--- The twins of some stems stand one behind another, that of the last stem first, and then comes another dart. So behind the twin
+-- The twins of some stems stand one behind another, that of the last stem first, and then comes another dart. Places count from the
+-- beginning of the contour, past whose end no stem of a balanced tree closes. So behind the twin
 -- of a stem, or at the beginning, for the contour's end in place of a stem, comes the twin of the last of these stems before it;
 -- and where there is none, that other dart.
 pub data IsBehind (IsAmong : ℕ → Type 0) (other : Dart) (bound : ℕ) (dart : Dart) : Type 0 where

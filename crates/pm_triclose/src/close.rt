@@ -8,7 +8,7 @@ use pm_map::RootedMap;
 use pm_tri::{Imbalance, TriTree, why_not_balanced};
 use std::alloc::{AllocError, Global};
 
-/// Why a stem tree wasn't closed, in the order in which the rules are tried.
+/// Why a stem tree wasn't closed: memory aside, the rules in the order in which they are tried.
 #[derive(Clone, Copy, Debug, PartialEq, Eq)]
 pub enum TriCloseRefusal {
     /// There is no memory left. It may come at any tree.
@@ -27,9 +27,8 @@ impl From<AllocError> for TriCloseRefusal {
     }
 }
 
-/// The closure of a balanced stem tree (Poulalhon and Schaeffer 2006), in time linear in its letters. The root is dart 0. Edges
-/// are numbered in the order of their first places along the contour, and the first place of the k-th edge, from 0, is dart
-/// `2k`; the last edge is that between the two vertices that are added. A tree with `n` nodes gets `3n` edges.
+/// The closure of a balanced stem tree (Poulalhon and Schaeffer 2006), in time linear in its letters. The root is dart 0. A tree
+/// with `n` nodes gets `3n` edges.
 ///
 /// # Errors
 ///

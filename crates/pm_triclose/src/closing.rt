@@ -18,8 +18,7 @@ struct OpenStem {
     half: bool,
 }
 
-/// The rotation of the closure of a balanced stem tree, told by its whole tree, in time linear in its letters. The root is dart 0,
-/// and the two darts of the k-th edge, in the order of the first places of the edges, are `2k` and `2k + 1`.
+/// The rotation of the closure of a balanced stem tree, told by its whole tree, in time linear in its letters. The root is dart 0.
 pub(crate) fn whole_rotation(alloc: Global, tree: &TriTree) -> Result<Vec<u32>, AllocError>
     requires { IsBalanced (contour tree.now) }
     ensures { IfOk result (λ sigma. IsWholeClosure (contour (whole tree.now)) (structure_of (record { sigma = sigma.items; root = 0 }))) }
