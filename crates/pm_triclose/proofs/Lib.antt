@@ -15,6 +15,7 @@ mod NestedDarts
 mod Numbers
 mod OpenStems
 mod PairEnds
+mod SameClosures
 mod TreeClosures
 mod TreeDarts
 mod TreeRing

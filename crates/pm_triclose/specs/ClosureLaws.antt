@@ -3,7 +3,7 @@ use Rattle.std.specs.Prelude.{◌≡◌, ℕ, ◌+◌, ◌*◌, ◌<◌, ◌↔�
 use Rattle.pm_map.specs.CycleSize.{IsCycleSize}
 use Rattle.pm_map.specs.Plane.{IsPlane, edges, faces, vertices}
 use Rattle.pm_map.specs.Rotation.{IsRootedMap, RotationSystem, structure_of}
-use Rattle.pm_map.specs.Structure.{Structure, dual}
+use Rattle.pm_map.specs.Structure.{Same, Structure, dual}
 use Rattle.pm_tri.specs.Runs.{IsBalanced}
 use Rattle.pm_tri.specs.StemTree.{IsStemTree, contour, nodes}
 use Rattle.pm_tri.specs.Whole.{whole}
@@ -13,6 +13,10 @@ use Rattle.pm_triclose.specs.WholeClosure.{IsWholeClosure}
 -- a structure is the closure of a balanced stem tree exactly where it is that of its whole tree
 abbrev pub ClosuresAreWhole : Type 0
 ClosuresAreWhole = (word : List ℕ) (s : Structure) → IsStemTree word → IsBalanced (contour word) → (IsStemClosure (contour word) s ↔ IsWholeClosure (contour (whole word)) s)
+
+-- a balanced stem tree has one closure, but for the names of darts
+abbrev pub ClosuresAreSame : Type 0
+ClosuresAreSame = (word : List ℕ) (one other : Structure) → IsStemTree word → IsBalanced (contour word) → IsStemClosure (contour word) one → IsStemClosure (contour word) other → Same one other
 
 -- a plane structure with 3n edges, n + 2 vertices and 2n faces
 pub record IsPlaneOfSize (s : Structure) (n : ℕ) : Type 0 where

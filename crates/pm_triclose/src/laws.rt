@@ -1,5 +1,5 @@
 //! Laws of closures.
-ghost use Rattle.pm_triclose.specs.ClosureLaws.{ClosureFacesAreTriangles, ClosuresAreMaps, ClosuresArePlane, ClosuresAreWhole};
+ghost use Rattle.pm_triclose.specs.ClosureLaws.{ClosureFacesAreTriangles, ClosuresAreMaps, ClosuresArePlane, ClosuresAreSame, ClosuresAreWhole};
 
 /// A structure is the closure of a balanced stem tree exactly where it is that of its whole tree.
 pub fn closures_are_whole()
@@ -12,4 +12,9 @@ pub fn closures_are_plane()
     ensures plane { ClosuresArePlane }
     ensures maps { ClosuresAreMaps }
     ensures triangles { ClosureFacesAreTriangles }
+{}
+
+/// A balanced stem tree has one closure: two of them are the same, but for the names of their darts.
+pub fn closures_are_same()
+    ensures { ClosuresAreSame }
 {}

@@ -6,7 +6,7 @@ mod closing;
 mod laws;
 
 pub use close::{TriCloseRefusal, tri_close};
-pub use laws::{closures_are_plane, closures_are_whole};
+pub use laws::{closures_are_plane, closures_are_same, closures_are_whole};
 
 #[cfg(test)]
 mod tests;
