@@ -7,7 +7,7 @@ mod CountedDarts
 mod DartKeys
 mod DartNumbers
 mod FaceCorners
-mod FaceTriangles
+pub mod FaceTriangles
 mod InTree
 mod InWhole
 mod Links
@@ -15,8 +15,10 @@ mod NestedDarts
 mod Numbers
 mod OpenStems
 mod PairEnds
-mod SameClosures
-mod TreeClosures
+pub mod RenamedClosures
+pub mod SameClosures
+pub mod SomeClosures
+pub mod TreeClosures
 mod TreeDarts
 mod TreeRing
 mod WholeBrackets

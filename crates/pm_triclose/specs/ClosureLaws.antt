@@ -4,6 +4,7 @@ use Rattle.pm_map.specs.CycleSize.{IsCycleSize}
 use Rattle.pm_map.specs.Plane.{IsPlane, edges, faces, vertices}
 use Rattle.pm_map.specs.Rotation.{IsRootedMap, RotationSystem, structure_of}
 use Rattle.pm_map.specs.Structure.{Same, Structure, dual}
+use Rattle.pm_tri.specs.Replanting.{IsReplanted}
 use Rattle.pm_tri.specs.Runs.{IsBalanced}
 use Rattle.pm_tri.specs.StemTree.{IsStemTree, contour, nodes}
 use Rattle.pm_tri.specs.Whole.{whole}
@@ -37,3 +38,24 @@ ClosuresAreMaps = (word : List ℕ) (map : RotationSystem) → IsStemTree word �
 -- each face of the closure has degree 3
 abbrev pub ClosureFacesAreTriangles : Type 0
 ClosureFacesAreTriangles = (word : List ℕ) (s : Structure) → IsStemTree word → IsBalanced (contour word) → IsStemClosure (contour word) s → (d : ℕ) → d < s.darts → IsCycleSize (dual s).next d 3
+
+-- a structure that is the same as a closure is a closure too
+abbrev pub ClosuresAreRenamed : Type 0
+ClosuresAreRenamed = (places : List ℕ) (one other : Structure) → Same one other → IsStemClosure places one → IsStemClosure places other
+
+-- each balanced stem tree has a closure: a rotation with the root 0
+abbrev pub EachBalancedTreeCloses : Type 0
+EachBalancedTreeCloses = (word : List ℕ) → IsStemTree word → IsBalanced (contour word) → (sigma : List ℕ) × IsStemClosure (contour word) (structure_of (record { sigma = sigma; root = 0 }))
+
+-- a stem tree, planted at one of its stems where it is balanced and closes
+pub record HasClosure (word : List ℕ) : Type 0 where
+  pub stem : ℕ
+  pub planted : List ℕ
+  pub is_planted : IsReplanted word stem planted
+  pub balanced : IsBalanced (contour planted)
+  pub sigma : List ℕ
+  pub closure : IsStemClosure (contour planted) (structure_of (record { sigma = sigma; root = 0 }))
+
+-- each stem tree has
+abbrev pub EachTreeBalances : Type 0
+EachTreeBalances = (word : List ℕ) → IsStemTree word → HasClosure word

@@ -1,6 +1,8 @@
 //! Closing a stem tree to a map.
-ghost use Rattle.std.specs.Prelude.{◌≡◌};
-ghost use Rattle.pm_triclose.specs.Closing.{IsTriClosing};
+ghost use Rattle.std.specs.Prelude.{◌≡◌, IfOk};
+ghost use Rattle.pm_tri.specs.Runs.{IsBalanced};
+ghost use Rattle.pm_tri.specs.StemTree.{contour};
+ghost use Rattle.pm_triclose.specs.Closing.{ClosesTo, IsTriClosing};
 ghost use Rattle.pm_triclose.specs.declared.close.TriCloseRefusal.TheVariants.{Memory};
 
 use crate::closing::whole_rotation;
@@ -40,11 +42,21 @@ pub fn tri_close(alloc: Global, tree: &TriTree) -> Result<RootedMap, TriCloseRef
     match why_not_balanced(tree) {
         Some(Imbalance::Closes { side }) => Err(TriCloseRefusal::Closes { side }),
         Some(Imbalance::Follows { stem }) => Err(TriCloseRefusal::Follows { stem }),
-        None => {
-            // Its contract says that they are those of a stem tree.
-            let _letters = tree.letters();
-            let sigma = whole_rotation(alloc, tree)?;
-            Ok(RootedMap::from_rooted_rotation(sigma, 0))
-        }
+        None => Ok(tri_close_balanced(alloc, tree)?),
     }
+}
+
+/// The closure of a stem tree that is known to be balanced, as [`tri_close`] gives it.
+///
+/// # Errors
+///
+/// Only where there is no memory left.
+pub fn tri_close_balanced(alloc: Global, tree: &TriTree) -> Result<RootedMap, AllocError>
+    requires { IsBalanced (contour tree.now) }
+    ensures { IfOk result (ClosesTo tree.now) }
+{
+    // Its contract says that they are those of a stem tree.
+    let _letters = tree.letters();
+    let sigma = whole_rotation(alloc, tree)?;
+    Ok(RootedMap::from_rooted_rotation(sigma, 0))
 }

@@ -1,5 +1,5 @@
 //! Laws of closures.
-ghost use Rattle.pm_triclose.specs.ClosureLaws.{ClosureFacesAreTriangles, ClosuresAreMaps, ClosuresArePlane, ClosuresAreSame, ClosuresAreWhole};
+ghost use Rattle.pm_triclose.specs.ClosureLaws.{ClosureFacesAreTriangles, ClosuresAreMaps, ClosuresArePlane, ClosuresAreRenamed, ClosuresAreSame, ClosuresAreWhole, EachBalancedTreeCloses, EachTreeBalances};
 
 /// A structure is the closure of a balanced stem tree exactly where it is that of its whole tree.
 pub fn closures_are_whole()
@@ -17,4 +17,15 @@ pub fn closures_are_plane()
 /// A balanced stem tree has one closure: two of them are the same, but for the names of their darts.
 pub fn closures_are_same()
     ensures { ClosuresAreSame }
+{}
+
+/// What is the same as a closure, but for the names of its darts, is a closure of the same tree.
+pub fn closures_are_renamed()
+    ensures { ClosuresAreRenamed }
+{}
+
+/// Each balanced stem tree has a closure, and each stem tree is balanced where it is planted at one of two of its stems.
+pub fn stem_trees_have_closures()
+    ensures balanced { EachBalancedTreeCloses }
+    ensures planted { EachTreeBalances }
 {}
