@@ -12,15 +12,20 @@ mod InTree
 mod InWhole
 mod Links
 mod NestedDarts
+mod NodeHeights
 mod Numbers
 mod OpenStems
 mod PairEnds
 pub mod RenamedClosures
 pub mod SameClosures
+mod SimpleArcs
+mod SimpleClosures
 pub mod SomeClosures
 pub mod TreeClosures
+mod TreeCorners
 mod TreeDarts
 mod TreeRing
+mod VertexNodes
 mod WholeBrackets
 mod WholeClosures
 mod WholeInOrder

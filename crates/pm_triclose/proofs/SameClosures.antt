@@ -16,12 +16,12 @@ use Rattle.pm_triclose.proofs.WholePlane.{name, name_back, named, number_back}
 
 module _ (places : List ℕ) (across ends : ℕ → ℕ) (w : IsStemRing places across ends) where
   -- a named dart and what holds of it
-  record IsFound (P : Dart → Type 0) : Type 0 where
-    dart : Dart
-    is_named : IsWholeDart places dart
-    holds : P dart
+  pub record IsFound (P : Dart → Type 0) : Type 0 where
+    pub dart : Dart
+    pub is_named : IsWholeDart places dart
+    pub holds : P dart
 
-  follows_found : (x : Dart) → IsWholeDart places x → IsFound (FollowsWhole places x)
+  pub follows_found : (x : Dart) → IsWholeDart places x → IsFound (FollowsWhole places x)
   follows_found x h =
       let y = next_found places across ends w (bracket across x) in
       let i = bracket_named places across ends w x h in
@@ -31,7 +31,7 @@ module _ (places : List ℕ) (across ends : ℕ → ℕ) (w : IsStemRing places 
         holds = subst (λ (z : Dart). FollowsWhole places z y.0) (bracket_back places across ends w x h) (next_follows places across ends w (bracket across x) y.0 i y.1);
       }
 
-  twin_found : (x : Dart) → IsWholeDart places x → IsFound (AreTwins places x)
+  pub twin_found : (x : Dart) → IsWholeDart places x → IsFound (AreTwins places x)
   twin_found x h = record {
     dart = bracket across (stem_pair places x);
     is_named = bracket_named places across ends w (stem_pair places x) (stem_named places across ends w x h);

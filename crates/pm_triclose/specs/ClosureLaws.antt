@@ -1,8 +1,10 @@
 -- The laws of closures.
 use Rattle.std.specs.Prelude.{◌≡◌, ℕ, ◌+◌, ◌*◌, ◌<◌, ◌↔◌, List}
+use Rattle.pm_map.specs.Classes.{IsTriangulation}
 use Rattle.pm_map.specs.CycleSize.{IsCycleSize}
 use Rattle.pm_map.specs.Plane.{IsPlane, edges, faces, vertices}
 use Rattle.pm_map.specs.Rotation.{IsRootedMap, RotationSystem, structure_of}
+use Rattle.pm_map.specs.Simple.{IsSimple}
 use Rattle.pm_map.specs.Structure.{Same, Structure, dual}
 use Rattle.pm_tri.specs.Replanting.{IsReplanted}
 use Rattle.pm_tri.specs.Runs.{IsBalanced}
@@ -59,3 +61,11 @@ pub record HasClosure (word : List ℕ) : Type 0 where
 -- each stem tree has
 abbrev pub EachTreeBalances : Type 0
 EachTreeBalances = (word : List ℕ) → IsStemTree word → HasClosure word
+
+-- the closure has no loop, and no two edges with the same ends
+abbrev pub ClosuresAreSimple : Type 0
+ClosuresAreSimple = (word : List ℕ) (s : Structure) → IsStemTree word → IsBalanced (contour word) → IsStemClosure (contour word) s → IsSimple s
+
+-- so that of a tree with n nodes is a triangulation of size n
+abbrev pub ClosuresAreTriangulations : Type 0
+ClosuresAreTriangulations = (word : List ℕ) (s : Structure) → IsStemTree word → IsBalanced (contour word) → IsStemClosure (contour word) s → IsTriangulation s (nodes word)

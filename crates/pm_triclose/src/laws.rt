@@ -1,5 +1,5 @@
 //! Laws of closures.
-ghost use Rattle.pm_triclose.specs.ClosureLaws.{ClosureFacesAreTriangles, ClosuresAreMaps, ClosuresArePlane, ClosuresAreRenamed, ClosuresAreSame, ClosuresAreWhole, EachBalancedTreeCloses, EachTreeBalances};
+ghost use Rattle.pm_triclose.specs.ClosureLaws.{ClosureFacesAreTriangles, ClosuresAreMaps, ClosuresArePlane, ClosuresAreRenamed, ClosuresAreSame, ClosuresAreSimple, ClosuresAreTriangulations, ClosuresAreWhole, EachBalancedTreeCloses, EachTreeBalances};
 
 /// A structure is the closure of a balanced stem tree exactly where it is that of its whole tree.
 pub fn closures_are_whole()
@@ -28,4 +28,11 @@ pub fn closures_are_renamed()
 pub fn stem_trees_have_closures()
     ensures balanced { EachBalancedTreeCloses }
     ensures planted { EachTreeBalances }
+{}
+
+/// The closure of a balanced stem tree has no loop, and no two edges with the same ends (Poulalhon and Schaeffer 2006). So that of
+/// a tree with `n` nodes is a simple triangulation of size `n`.
+pub fn closures_are_simple()
+    ensures simple { ClosuresAreSimple }
+    ensures triangulations { ClosuresAreTriangulations }
 {}
