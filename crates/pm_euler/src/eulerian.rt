@@ -140,25 +140,28 @@ fn make(alloc: Global, size: &Profile, prefix: &[u64]) -> Result<Made, AllocErro
     let preorder = preorder_of(alloc, &halves, &prefix[..objects])?;
     let kinds = kinds_of(alloc, &halves, &prefix[objects..], &preorder.objects)?;
     let tree = plant_plane(alloc, &kinds)?;
-    let rest = rest_of(alloc, size, &halves, &preorder)?;
+    drop(kinds);
+    let rest = rest_of(alloc, size, &halves, preorder)?;
     Ok(Made { tree, rest })
 }
 
-/// The start and the codes by degree.
+/// The start and the codes by degree, in a list with room for the number of the old plant.
 fn rest_of(
     alloc: Global,
     profile: &Profile,
     halves: &[u32],
-    preorder: &Preorder,
+    preorder: Preorder,
 ) -> Result<Vec<u64>, AllocError>
     requires halves { halves.now ≡ halves_of profile.now }
-    requires few { length preorder.now.objects.items < 2 ^ 32 }
-    ensures { IfOk result (λ rest. rest.items ≡ preorder.now.start ∷ codes_by_degree profile.now preorder.now.objects.items) }
+    requires few { length preorder.objects.items < 2 ^ 32 }
+    ensures { IfOk result (λ rest. rest.items ≡ preorder.start ∷ codes_by_degree profile.now preorder.objects.items) }
 {
     let ranges = ranges_of(alloc, profile)?;
     let codes = codes_by_range(alloc, &ranges, halves, &preorder.objects)?;
-    let mut rest = Vec::new(alloc);
-    rest.push(u64::from(preorder.start))?;
+    let start = preorder.start;
+    drop(preorder);
+    let mut rest = Vec::with_capacity(alloc, codes.len() + 2)?;
+    rest.push(u64::from(start))?;
     rest.extend_from_slice(&codes)?;
     Ok(rest)
 }
@@ -178,9 +181,13 @@ fn prefix_of(
     let ranges = ranges_of(alloc, size)?;
     let halves = halves_in(alloc, &kinds)?;
     let objects = objects_of_codes(alloc, &ranges, &halves, &rest[1..])?;
+    drop(halves);
     let ranks = ranks_by_object(alloc, nodes_of(size) as usize, &kinds, &objects)?;
+    drop(kinds);
     let arrangement = turned_back(alloc, &objects, rest[0] as u32)?;
+    drop(objects);
     let mut prefix = code(alloc, &arrangement)?;
+    drop(arrangement);
     prefix.extend_from_slice(&ranks)?;
     Ok(prefix)
 }

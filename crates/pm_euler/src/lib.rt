@@ -14,6 +14,7 @@ mod shape_reading;
 mod unplanting;
 
 pub use eulerian::Eulerian;
+pub use map_profile::profile_of_even;
 pub use quartic::Quartic;
 
 #[cfg(test)]
