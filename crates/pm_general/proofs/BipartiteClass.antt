@@ -1,10 +1,10 @@
 -- The laws of maps with given even face degrees as a class, from those of the maps with given even degrees.
-use Rattle.std.proofs.Common.{◌≡◌, ℕ, ◌<◌, List, Result, Ok, Err, refl, sym, ◌∙◌, ap, subst, arith}
+use Rattle.std.proofs.Common.{◌≡◌, ℕ, ◌<◌, List, length, Result, Ok, Err, refl, sym, ◌∙◌, ap, subst, arith}
 use Rattle.pm_limits.specs.declared.TheConstants.{MAX_EDGES, MAX_DEGREE}
 use Rattle.pm_map.specs.Structure.{Structure, IsStructure, CarriesTo, Same, dual}
 use Rattle.pm_map.specs.Rotation.{RotationSystem, structure_of, IsRootedMap}
 use Rattle.pm_map.specs.Classes.{IsBipartite, IsEulerian}
-use Rattle.pm_map.specs.ClassRules.{HasAdmittedDegree, IsLeastOther}
+use Rattle.pm_map.specs.ClassRules.{AllAdmitted, HasAdmittedDegree, IsLeastOther}
 use Rattle.pm_map.specs.DualLaws.{IsDualOf}
 use Rattle.pm_map.specs.declared.admitted.Degrees.{Degrees}
 use Rattle.pm_map.specs.declared.admitted.Degrees.TheVariants.{EvenUpTo}
@@ -111,7 +111,13 @@ module _ (m other : RotationSystem) (rooted : IsRootedMap m) (of : IsDualOf m ot
   after : IsRootedMap other
   after = dual_is_rooted m other rooted of
 
-  pub face_of_dual : (dart : ℕ) → IsLeastOther (structure_of other) (EvenUpTo MAX_DEGREE) dart → IsLeastOther (dual (structure_of m)) (EvenUpTo MAX_DEGREE) dart
+  -- the vertices of the dual have the degrees of the faces
+  pub vertices_of_dual : AllAdmitted (dual (structure_of m)) (EvenUpTo MAX_DEGREE) → AllAdmitted (structure_of other) (EvenUpTo MAX_DEGREE)
+  vertices_of_dual all = λ d less.
+      let within : d < length m.sigma = subst (λ n. d < n) of.as_long less in
+      admitted_carried (dual (structure_of m)) (structure_of other) (EvenUpTo MAX_DEGREE) d there (dual_to_map m other of) within (all d within)
+
+  face_of_dual : (dart : ℕ) → IsLeastOther (structure_of other) (EvenUpTo MAX_DEGREE) dart → IsLeastOther (dual (structure_of m)) (EvenUpTo MAX_DEGREE) dart
   face_of_dual dart is = least_other_carried (structure_of other) (dual (structure_of m)) (EvenUpTo MAX_DEGREE) dart after.structure there (map_to_dual m other of) (dual_to_map m other of) is
 
   answer_to_dual : (answer : Result (List (ℕ × ℕ)) ClassRefusal) → IsBipartiteAnswer m answer → IsEulerianAnswer other (faced answer)

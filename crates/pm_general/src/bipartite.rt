@@ -11,10 +11,10 @@ use pm_class::{
     MapClass, Sample, SampledThrough, sample_unnamed_through, through_is_one_to_one,
     unsample_through,
 };
-use pm_euler::Eulerian;
-use pm_limits::MAX_EDGES;
+use pm_euler::{Eulerian, profile_of_even};
+use pm_limits::{MAX_DEGREE, MAX_EDGES};
 use pm_lists::{Bounds, NumList};
-use pm_map::{ClassRefusal, RootedMap};
+use pm_map::{ClassRefusal, Degrees, RootedMap};
 use pm_medial::dual;
 use pm_trees::Profile;
 use std::alloc::{AllocError, Global};
@@ -75,15 +75,18 @@ impl MapClass for Bipartite {
     }
 
     fn size_of(alloc: Global, map: &RootedMap) -> Result<Profile, ClassRefusal> {
-        // Its contract says that the map is a rooted one.
-        let _edges = map.edges();
-        let behind = dual(alloc, map)?;
-        // The dual has the map's darts, so its dart is the map's.
-        match Eulerian::size_of(alloc, &behind) {
-            Ok(profile) => Ok(profile),
-            Err(ClassRefusal::Vertex { dart }) => Err(ClassRefusal::Face { dart }),
-            Err(refusal) => Err(refusal),
+        if map.edges() == 0 {
+            return Err(ClassRefusal::Empty);
         }
+        let even = Degrees::EvenUpTo {
+            greatest: MAX_DEGREE,
+        };
+        if let Some(dart) = map.face_of_other_degree(alloc, even)? {
+            return Err(ClassRefusal::Face { dart });
+        }
+        // The dual's vertices have the degrees of the faces.
+        let behind = dual(alloc, map)?;
+        Ok(profile_of_even(alloc, &behind)?)
     }
 
     fn sample_unnamed(
