@@ -4,6 +4,8 @@ use pm_general::General;
 use pm_map::RootedMap;
 use pm_mapfile::{canonical_bytes, read_map_file};
 use pm_reach::{CensusRefusal, census, layers};
+use pm_tri::{read_tri_tree, tri_replant};
+use pm_triclose::{TriCloseRefusal, tri_close};
 use std::test::Fail;
 
 // A triangle: the vertices 0 2, 1 4 and 3 5, as their rotation.
@@ -73,5 +75,20 @@ fn refuses_too_many_lists(rt: HostRuntime) -> Result<(), Fail> {
     assert!(rt; General::admissible(&edges));
     let found = census::<General>(rt.alloc(), &edges);
     assert!(rt; matches!(found, Err(CensusRefusal::TooManyLists)));
+    Ok(())
+}
+
+// Two nodes with two stems each, planted at each node's second stem in turn: the one closes to the tetrahedron.
+#[test]
+fn closes_a_stem_tree(rt: HostRuntime) -> Result<(), Fail> {
+    let tree = read_tri_tree(rt.alloc(), "s(ss)".as_bytes())?;
+    let refusal = tri_close(rt.alloc(), &tree).err();
+    assert_eq!(rt; refusal, Some(TriCloseRefusal::Follows { stem: 4 }));
+    assert!(rt; tree.nodes() == 2);
+    let planted = tri_replant(rt.alloc(), &tree, 3)?;
+    assert_eq!(rt; planted.letters(), "(ss)s".as_bytes());
+    let map = tri_close(rt.alloc(), &planted)?;
+    let mut marks = vec![in rt.alloc(); false; map.sigma().len()]?;
+    assert_eq!(rt; map.counts(&mut marks).vertices, 4);
     Ok(())
 }
