@@ -41,6 +41,17 @@ fn single_edges(alloc: Global, edges: u32) -> Result<Vec<u8>, AllocError> {
     Ok(text)
 }
 
+// The text of so many edges with dart 0 at each place, which is no permutation.
+fn repeated_dart(alloc: Global, edges: u32) -> Result<Vec<u8>, AllocError> {
+    let mut text = first_line(alloc, edges)?;
+    text.push(b'v')?;
+    for _place in 0..2 * u64::from(edges) {
+        text.extend_from_slice(b" 0")?;
+    }
+    text.extend_from_slice(b"\nend\n")?;
+    Ok(text)
+}
+
 // A ring of so many edges, and one edge more that hangs on its last vertex but one.
 fn ring_with_tail(alloc: Global, edges: u32) -> Result<Vec<u8>, AllocError>
     requires { edges < 2 ^ 30 }
@@ -91,11 +102,19 @@ fn refused(
     Ok(())
 }
 
+// The limit is looked at before the permutation.
 #[test]
-fn more_edges_than_checked(rt: HostRuntime) -> Result<(), Fail> {
-    let text = single_edges(rt.alloc(), 2_097_153)?;
-    let want = "planarmap: limit edges 2097153\n";
-    refused(&rt, rt.alloc(), "check general", &text, 7, want)
+fn more_edges_than_general_maps_have(rt: HostRuntime) -> Result<(), Fail> {
+    let rows = [
+        (2_097_152, 6, "planarmap: map permutation 1\n"),
+        (2_097_153, 7, "planarmap: limit edges 2097153\n"),
+    ];
+    for (edges, status, want) in rows {
+        let text = repeated_dart(rt.alloc(), edges)?;
+        refused(&rt, rt.alloc(), "check general", &text, status, want)?;
+        refused(&rt, rt.alloc(), "medial", &text, status, want)?;
+    }
+    Ok(())
 }
 
 #[test]

@@ -8,7 +8,8 @@ use std::alloc::AllocError;
 /// A sampled map and the rest of its choices.
 #[derive(Drop)]
 pub struct Sample {
-    /// The map, in its canonical numbering.
+    /// The map: in its canonical numbering from `sample` and `sample_valid`, in any numbering from `sample_unnamed`. In the
+    /// canonical one the root is dart 0, and maps that differ only in the numbers of their darts have one rotation.
     pub map: RootedMap,
     /// What is left of the choices: a list that is valid for the class's residue bounds.
     pub residue: NumList,

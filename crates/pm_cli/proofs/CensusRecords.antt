@@ -1,5 +1,5 @@
 -- Records of a census, and its one answer.
-use Rattle.std.proofs.Common.{◌≡◌, ℕ, zero, suc, ◌+◌, ◌<◌, ◌≤◌, inl, inr, List, [], ◌∷◌, ◌++◌, take, length, refl, sym, ap, ap₂, ◌∙◌, subst, arith}
+use Rattle.std.proofs.Common.{◌≡◌, ℕ, zero, suc, ◌+◌, ◌≤◌, inl, inr, List, [], ◌∷◌, ◌++◌, take, length, refl, sym, ap, ap₂, ◌∙◌, subst, arith}
 use Rattle.std.specs.Prelude.{Option, None, Some, slice_get, codes, decimal, MatchOption, Result, Ok, Err}
 use Rattle.std.specs.List.{sum}
 use Rattle.std.specs.Map.{keys_of, values_of}
@@ -13,7 +13,6 @@ use Rattle.pm_io.specs.Faults.{FaultsRose}
 use Rattle.pm_text.specs.Broken.{newline}
 use Rattle.pm_map.specs.Canonical.{IsCanonical}
 use Rattle.pm_map.specs.Rotation.{RotationSystem}
-use Rattle.pm_mapfile.specs.MapText.{IsMapText}
 use Rattle.pm_mapfile.proofs.CanonicalTexts.{canonical_has_text}
 use Rattle.pm_class.specs.Sampling.{HasOneSample}
 use Rattle.pm_reach.specs.declared.lists.TheConstants.{MOST_LISTS}

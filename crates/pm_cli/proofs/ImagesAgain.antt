@@ -1,5 +1,5 @@
 -- Duals of duals, unmedials of medial maps and medial maps of unmedials are the map, up to the names of darts.
-use Rattle.std.proofs.Common.{◌≡◌, ℕ, ◌*◌, ◌/◌, ◌<◌, ◌≤◌, List, length, refl, subst, arith}
+use Rattle.std.proofs.Common.{◌≡◌, ℕ, ◌*◌, ◌<◌, ◌≤◌, List, length, refl, subst, arith}
 use Rattle.std.specs.Prelude.{None, Ok}
 use Rattle.pm_limits.specs.declared.TheConstants.{MAX_EDGES}
 use Rattle.pm_map.specs.DualLaws.{IsDualOf}
@@ -14,6 +14,7 @@ use Rattle.pm_medial.proofs.UnmedialLaws.{unmedial_counts}
 use Rattle.pm_medial.proofs.WrittenLemmas.{medial_is_rooted}
 use Rattle.pm_mapfile.proofs.FileLimits.{within_limit}
 use Rattle.pm_general.proofs.DualsOfMaps.{dual_map, dual_map_is, map_to_dual, dual_back}
+use Rattle.pm_general.specs.General.{most_general_edges}
 use Rattle.pm_general.proofs.GeneralClass.{medial_map, medial_map_is}
 use Rattle.pm_cli.specs.declared.command.MapTask.TheVariants.{Canon, Medial, Unmedial, Dual}
 use Rattle.pm_cli.specs.declared.command.Reader.TheVariants.{OfMap}
@@ -135,7 +136,7 @@ unmedials_return bytes text canonical turns canonizes =
     told canonical (record {
       residue = None;
       map = again;
-      answered = read_back again (MAX_EDGES / 2) text rooted (omega (arith, few)) has.is_text;
+      answered = read_back again most_general_edges text rooted (omega (arith, few)) has.is_text;
       holds = record {
         other = medial_map again;
         rooted = medial_is_rooted again (medial_map again) rooted some few is;

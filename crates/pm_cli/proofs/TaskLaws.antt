@@ -34,6 +34,7 @@ use Rattle.pm_open.proofs.SomeOpening.{each_map_opens}
 use Rattle.pm_open.proofs.UniqueOpening.{one_opening}
 use Rattle.pm_euler.proofs.QuarticMaps.{quartic_of_degrees}
 use Rattle.pm_general.proofs.DualsOfMaps.{dual_map, dual_map_is}
+use Rattle.pm_general.specs.General.{most_general_edges}
 use Rattle.pm_general.proofs.GeneralClass.{medial_map, medial_map_is}
 use Rattle.pm_cli.specs.declared.command.MapTask.{MapTask}
 use Rattle.pm_cli.specs.declared.command.MapTask.TheVariants.{Canon, Medial, Unmedial, Dual, Layers}
@@ -151,7 +152,7 @@ dual_image = record {
   some = λ m rooted few told refused. told (dual_map m) (dual_is_rooted m (dual_map m) rooted (dual_map_is m)) (dual_map_is m);
 }
 
-medial_image : IsImage (λ map other. (0 < length map.sigma) × IsMedialMap map other) HasNoDart (MAX_EDGES / 2)
+medial_image : IsImage (λ map other. (0 < length map.sigma) × IsMedialMap map other) HasNoDart most_general_edges
 medial_image = record {
   alike = λ m one other rooted first second x y. same_map one other (one_medial m one other rooted x.1 y.1);
   not_both = λ m other why rooted x y. some_dart m why x.0 y;
@@ -211,7 +212,7 @@ layers_laws = record {
 
 pub task_laws : (task : MapTask) → IsMapRelation (task_relation task)
 task_laws Canon = printing_laws _ _ MAX_EDGES (omega arith) canon_image
-task_laws Medial = printing_laws _ _ (MAX_EDGES / 2) (omega arith) medial_image
+task_laws Medial = printing_laws _ _ most_general_edges (omega arith) medial_image
 task_laws Unmedial = printing_laws _ _ MAX_EDGES (omega arith) unmedial_image
 task_laws Dual = printing_laws _ _ MAX_EDGES (omega arith) dual_image
 task_laws Layers = layers_laws

@@ -1,5 +1,5 @@
 -- The classes of maps, as bundles of what each says of sizes, maps and lists.
-use Rattle.std.specs.Prelude.{ℕ, ◌/◌, List, Result, codes, decimal}
+use Rattle.std.specs.Prelude.{ℕ, List, Result, codes, decimal}
 use Rattle.pm_limits.specs.declared.TheConstants.{MAX_EDGES}
 use Rattle.pm_trees.specs.Pairs.{IsProfile}
 use Rattle.pm_map.specs.declared.class_refusal.ClassRefusal.{ClassRefusal}
@@ -12,7 +12,7 @@ use Rattle.pm_euler.specs.Bounds.{quartic_choices, quartic_residues, eulerian_ch
 use Rattle.pm_euler.specs.Eulerian.{IsEulerianAnswer, SamplesEulerian}
 use Rattle.pm_euler.specs.Quartic.{IsQuarticSize, SamplesQuartic}
 use Rattle.pm_general.specs.Bipartite.{IsBipartiteAnswer, SamplesBipartite}
-use Rattle.pm_general.specs.General.{IsGeneralAnswer, IsGeneralSize, SamplesGeneral}
+use Rattle.pm_general.specs.General.{most_general_edges, IsGeneralAnswer, IsGeneralSize, SamplesGeneral}
 use Rattle.pm_cli.specs.declared.class.Class.{Class}
 use Rattle.pm_cli.specs.declared.class.Class.TheVariants as class
 use Rattle.pm_cli.specs.declared.class.Size.{Size}
@@ -59,7 +59,7 @@ eulerian_sampler = record {
 abbrev pub general_sampler : Sampler
 general_sampler = record {
   Measure = ℕ;
-  most_edges = MAX_EDGES / 2;
+  most_edges = most_general_edges;
   is_size = IsGeneralSize;
   choice_limits = quartic_choices;
   residue_limits = quartic_residues;

@@ -1,5 +1,5 @@
 -- What the commands from a map file to a text answer.
-use Rattle.std.specs.Prelude.{◌≡◌, ℕ, ◌/◌, ◌<◌, List, [], ◌∷◌, ◌++◌, length, Option, None, Some, Result, Ok, Err, codes, decimal, ⊤}
+use Rattle.std.specs.Prelude.{◌≡◌, ℕ, ◌<◌, List, [], ◌∷◌, ◌++◌, length, Option, None, Some, Result, Ok, Err, codes, decimal, ⊤}
 use Rattle.pm_limits.specs.declared.TheConstants.{MAX_EDGES, MAX_DEGREE}
 use Rattle.pm_text.specs.Broken.{newline, IsBrokenLine}
 use Rattle.pm_map.specs.declared.admitted.Degrees.{Degrees}
@@ -14,6 +14,7 @@ use Rattle.pm_map.specs.Rotation.{RotationSystem, structure_of, IsRootedMap}
 use Rattle.pm_map.specs.Canonical.{IsCanonicalOf}
 use Rattle.pm_map.specs.DualLaws.{IsDualOf}
 use Rattle.pm_medial.specs.Medial.{IsMedialMap, IsUnmedialOf}
+use Rattle.pm_general.specs.General.{most_general_edges}
 use Rattle.pm_mapfile.specs.Answers.{AnswersFile}
 use Rattle.pm_mapfile.specs.MapFile.{IsMapFile}
 pub use Rattle.pm_mapfile.specs.MapText.{HasCanonicalText}
@@ -109,10 +110,10 @@ pub record HasLayersText (map : RotationSystem) (text : List ℕ) : Type 0 where
   pub is_map_text : IsMapText canonical map_text
   pub whole : text ≡ map_text ++ layers_lines layers
 
--- what is printed for a map; a medial map has twice as many edges
+-- what is printed for a map; a medial map has twice as many edges, so the map has no more than a general one
 abbrev pub task_relation : MapTask → MapRelation
 task_relation Canon = record { limit = MAX_EDGES; text_of = HasTextOf (λ map other. other ≡ map); refuses = λ map why. ⊥ }
-task_relation Medial = record { limit = MAX_EDGES / 2; text_of = HasTextOf (λ map other. (0 < length map.sigma) × IsMedialMap map other); refuses = HasNoDart }
+task_relation Medial = record { limit = most_general_edges; text_of = HasTextOf (λ map other. (0 < length map.sigma) × IsMedialMap map other); refuses = HasNoDart }
 task_relation Unmedial = record {
   limit = MAX_EDGES;
   text_of = HasTextOf (λ map other. (0 < length map.sigma) × IsUnmedialOf (structure_of map) other);

@@ -13,6 +13,8 @@ use crate::command::MapTask;
 use crate::map_file::map_of_file;
 use crate::refusal::{MapRule, Refusal, Stop};
 use pm_canon::canon;
+use pm_class::MapClass;
+use pm_general::General;
 use pm_limits::MAX_EDGES;
 use pm_lists::{NumList, put_list};
 use pm_map::RootedMap;
@@ -37,7 +39,7 @@ fn most_edges(task: MapTask) -> u32
 {
     match task {
         MapTask::Canon | MapTask::Unmedial | MapTask::Dual | MapTask::Layers => MAX_EDGES,
-        MapTask::Medial => MAX_EDGES / 2,
+        MapTask::Medial => General::MOST_EDGES,
     }
 }
 

@@ -1,5 +1,5 @@
 -- The laws of maps by their number of edges as a class, from those of quartic maps; size 0 by itself.
-use Rattle.std.proofs.Common.{◌≡◌, ℕ, zero, suc, ◌*◌, ◌/◌, ◌<◌, ◌≤◌, List, [], ◌∷◌, length, map, slice_index, Ok, Err, inl, inr, refl, sym, ◌∙◌, ap, subst, arith}
+use Rattle.std.proofs.Common.{◌≡◌, ℕ, zero, suc, ◌*◌, ◌<◌, ◌≤◌, List, [], ◌∷◌, length, map, slice_index, Ok, Err, inl, inr, refl, sym, ◌∙◌, ap, subst, arith}
 use Rattle.std.specs.List.{range_with_len}
 use Rattle.std.proofs.lemmas.List.FromFn.{get_or-map-range_with_len, length-map-range_with_len}
 use Rattle.std.proofs.lemmas.Bool.{cases_lt}
@@ -30,7 +30,7 @@ use Rattle.pm_medial.proofs.UnmedialLaws.{each_quartic_has_unmedial, unmedial_co
 use Rattle.pm_medial.proofs.WrittenLemmas.{medial_is_rooted}
 use Rattle.pm_euler.specs.Bounds.{quartic_choices, quartic_residues}
 use Rattle.pm_euler.specs.Quartic.{IsQuarticSize, SamplesQuartic}
-use Rattle.pm_general.specs.General.{nothing, IsGeneralSize, SamplesGeneral, HasMoreThanHalf, IsGeneralAnswer}
+use Rattle.pm_general.specs.General.{most_general_edges, nothing, IsGeneralSize, SamplesGeneral, HasMoreThanHalf, IsGeneralAnswer}
 use Rattle.pm_general.proofs.NoDarts.{nothing_is_canonical_of, given_nothing, taken_nothing, nothing_one_to_one, nothing_limits}
 
 -- each rooted map has a medial map, told by its rotation
@@ -133,7 +133,7 @@ one_general_answer m first (Err (Loop k)) rooted x y _ _ = absurd y
 one_general_answer m first (Err (Double k)) rooted x y _ _ = absurd y
 
 pub quartic_size : (n : ℕ) → 0 < n → IsGeneralSize n → IsQuarticSize n
-quartic_size n some is = record { some = some; few = is.few }
+quartic_size n some is = record { some = some; few = let few = is.few in omega (arith, few) }
 
 pub general_one_to_one : ((n : ℕ) → IsQuarticSize n → AreOneToOne (quartic_choices n) (quartic_residues n) (λ m. IsGeneral (structure_of m) n) (SamplesBehind IsMedialOf (SamplesQuartic n)))
     → (n : ℕ) → IsGeneralSize n → AreOneToOne (quartic_choices n) (quartic_residues n) (λ m. IsGeneral (structure_of m) n) (SamplesGeneral n)
@@ -144,12 +144,12 @@ pub general_limits : ((n : ℕ) → IsQuarticSize n → AreLimits (quartic_choic
 general_limits behind zero is = nothing_limits
 general_limits behind (suc n) is = behind (suc n) (quartic_size (suc n) (omega arith) is)
 
-pub general_most_edges : HasMostEdges IsGeneralSize (λ n m. IsGeneral (structure_of m) n) (MAX_EDGES / 2)
+pub general_most_edges : HasMostEdges IsGeneralSize (λ n m. IsGeneral (structure_of m) n) most_general_edges
 general_most_edges = record {
   within = λ n m size rooted is. (let darts = general_darts m n rooted is in let few = size.few in omega (arith, darts, few));
-  greatest = MAX_EDGES / 2;
+  greatest = most_general_edges;
   is_greatest = record { few = omega arith };
-  reached = λ m rooted is. general_darts m (MAX_EDGES / 2) rooted is;
+  reached = λ m rooted is. general_darts m most_general_edges rooted is;
 }
 
 -- what is sampled behind a size from 1 on
@@ -190,7 +190,7 @@ unsampled_nothing zero m residue choices none rooted answered valid choices_are 
 unsampled_nothing (suc n) m residue choices none rooted answered valid choices_are = absurd (omega (arith, none))
 
 pub some_general_answer : HasSomeAnswer IsGeneralAnswer
-some_general_answer m rooted told = elim (cases_lt (MAX_EDGES / 2) (edges (structure_of m))) [
+some_general_answer m rooted told = elim (cases_lt most_general_edges (edges (structure_of m))) [
   | inl many ↦ told (Err (TooMany (edges (structure_of m)))) (record { counted = refl; more = many }) (λ e. cc)
   | inr few ↦ told (Ok (edges (structure_of m))) (record { few = omega (arith, few) }, record { plane = rooted_is_plane m rooted; count = refl }) (λ e. cc)
 ]

@@ -1,5 +1,5 @@
 -- Which map and which residue a list of choices gives: maps by their number of edges.
-use Rattle.std.specs.Prelude.{◌≡◌, ℕ, zero, suc, ◌*◌, ◌/◌, ◌<◌, ◌≤◌, List, [], ◌∷◌, Result, Ok, Err, ⊤}
+use Rattle.std.specs.Prelude.{◌≡◌, ℕ, zero, suc, ◌/◌, ◌<◌, ◌≤◌, List, [], ◌∷◌, Result, Ok, Err, ⊤}
 use Rattle.pm_limits.specs.declared.TheConstants.{MAX_EDGES}
 use Rattle.pm_map.specs.Plane.{edges}
 use Rattle.pm_map.specs.Rotation.{RotationSystem, structure_of}
@@ -10,9 +10,13 @@ use Rattle.pm_class.specs.Behind.{SamplesBehind}
 use Rattle.pm_medial.specs.Medial.{IsMedialOf}
 use Rattle.pm_euler.specs.Quartic.{SamplesQuartic}
 
--- the sizes: those whose medial maps have no more edges than a map may have
+-- the most edges of a general map: its medial map has twice as many, and no more than a map may have
+abbrev pub most_general_edges : ℕ
+most_general_edges = MAX_EDGES / 2
+
+-- the sizes: numbers of edges
 pub record IsGeneralSize (n : ℕ) : Type 0 where
-  pub few : 2 * n ≤ MAX_EDGES
+  pub few : n ≤ most_general_edges
 
 -- the map without darts, which has one vertex and one face
 abbrev pub nothing : RotationSystem
@@ -32,10 +36,10 @@ abbrev pub SamplesGeneral : ℕ → List ℕ → RotationSystem → List ℕ →
 SamplesGeneral zero = SamplesNothing
 SamplesGeneral (suc n) = SamplesBehind IsMedialOf (SamplesQuartic (suc n))
 
--- the map has so many edges, more than half of what a map may have
+-- the map has so many edges, more than a general map may have: more than half of what a map may have
 pub record HasMoreThanHalf (map : RotationSystem) (many : ℕ) : Type 0 where
   pub counted : many ≡ edges (structure_of map)
-  pub more : MAX_EDGES / 2 < many
+  pub more : most_general_edges < many
 
 -- What a map is answered that should be of a size: its number of edges, or that there are too many. Want of memory may come
 -- at any map.

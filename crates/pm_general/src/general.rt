@@ -1,12 +1,11 @@
 //! General maps: any plane maps, by their number of edges.
-ghost use Rattle.std.specs.Prelude.{◌≡◌, ◌/◌, IfOk};
-ghost use Rattle.pm_limits.specs.declared.TheConstants.{MAX_EDGES};
+ghost use Rattle.std.specs.Prelude.{◌≡◌, IfOk};
 ghost use Rattle.pm_lists.specs.Valid.{IsValidList};
 ghost use Rattle.pm_map.specs.Classes.{IsGeneral};
 ghost use Rattle.pm_map.specs.Rotation.{structure_of};
 ghost use Rattle.pm_medial.specs.Medial.{IsMedialOf};
 ghost use Rattle.pm_euler.specs.Bounds.{quartic_choices, quartic_residues};
-ghost use Rattle.pm_general.specs.General.{IsGeneralAnswer, IsGeneralSize, SamplesGeneral, SamplesNothing, nothing};
+ghost use Rattle.pm_general.specs.General.{IsGeneralAnswer, IsGeneralSize, SamplesGeneral, SamplesNothing, most_general_edges, nothing};
 
 use pm_class::{
     MapClass, Sample, SampledThrough, sample_unnamed_through, through_is_one_to_one,
@@ -64,12 +63,12 @@ impl MapClass for General {
 
     ghost samples = { SamplesGeneral };
 
-    ghost MOST_EDGES = { MAX_EDGES / 2 };
+    ghost MOST_EDGES = { most_general_edges };
 
     const MOST_EDGES: u32 = MAX_EDGES / 2;
 
     fn admissible(size: &u32) -> bool {
-        *size <= MAX_EDGES / 2
+        *size <= Self::MOST_EDGES
     }
 
     fn choice_bounds(alloc: Global, size: &u32) -> Result<Bounds, AllocError> {
@@ -88,7 +87,7 @@ impl MapClass for General {
 
     fn size_of(_alloc: Global, map: &RootedMap) -> Result<u32, ClassRefusal> {
         let edges = map.edges();
-        if edges > MAX_EDGES / 2 {
+        if edges > Self::MOST_EDGES {
             return Err(ClassRefusal::TooMany {
                 edges: u64::from(edges),
             });
