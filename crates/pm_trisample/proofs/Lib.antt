@@ -1,0 +1,4 @@
+pub mod Chosen
+pub mod RunPlanting
+pub mod Samples
+pub mod TriObjects

@@ -1,0 +1,6 @@
+pub mod Closed
+pub mod Made
+pub mod Objects
+pub mod PlantedAnew
+pub mod Samples
+pub mod Triangulated
