@@ -5,13 +5,13 @@ use Rattle.pm_brackets.specs.PlantedAt.{AreTwo}
 use Rattle.pm_brackets.specs.Ring.{number_after}
 use Rattle.pm_brackets.specs.Word.{IsLetterAt, count}
 use Rattle.pm_brackets.proofs.LetterTurns.{letter_few}
-use Rattle.pm_brackets.proofs.PlantedAt.{anew_from, chosen_is, plant_is_marked}
+use Rattle.pm_brackets.proofs.PlantedAt.{anew_from, chosen_exists, chosen_is, one_anew, plant_is_marked}
 use Rattle.pm_tri.specs.declared.letters.TheConstants.{STEM}
 use Rattle.pm_tri.specs.Replanting.{IsAlike, IsReplanted}
 use Rattle.pm_tri.specs.Runs.{AreRunStarts, IsBalanced, IsRunStart}
 use Rattle.pm_tri.specs.StemTree.{IsStemTree, contour, nodes}
-use Rattle.pm_tri.proofs.Replants.{replanted_alike}
-use Rattle.pm_tri.proofs.RunStarts.{run_marks}
+use Rattle.pm_tri.proofs.Replants.{each_stem, replanted_alike}
+use Rattle.pm_tri.proofs.RunStarts.{run_marks, two_runs}
 use Rattle.pm_tri.proofs.StemCounts.{stems_count}
 use Rattle.pm_tri.proofs.StemLetters.{stem_is_other}
 use Rattle.pm_trisample.specs.PlantedAnew.{IsPlantedAnew, IsStartOfRun}
@@ -62,3 +62,25 @@ module _ (word : List ℕ) (run : ℕ) (turned : List ℕ) (old_plant : ℕ) (tr
   old_plant_few =
       let few = letter_few STEM (omega arith) (contour turned) old_plant anew.now anew.is_old_number in
       omega (arith, few, anew_alike.stems_are, stems_count word tree)
+
+-- a tree planted anew, and its old plant
+pub record HasAnew (word : List ℕ) (run : ℕ) : Type 0 where
+  pub turned : List ℕ
+  pub old_plant : ℕ
+  pub is : IsPlantedAnew word run turned old_plant
+
+-- each tree is planted anew at each of the two starts
+pub anew_exists : (word : List ℕ) (run : ℕ) → IsStemTree word → run < 2 → HasAnew word run
+anew_exists word run tree low =
+    let found : (place : ℕ) × IsStartOfRun (contour word) run place = chosen_exists (IsRunStart (contour word)) (two_runs word tree) run low in
+    let stem : ℕ = count STEM (take found.0 (contour word)) in
+    let planted : (planted : List ℕ) × IsReplanted word stem planted = each_stem word stem tree (start_few word run found.0 stem tree found.1 refl) in
+    record {
+      turned = planted.0;
+      old_plant = (2 * nodes word - stem) % (2 * nodes word);
+      is = start_anew word run found.0 stem tree found.1 refl planted.0 (nodes word) refl planted.1;
+    }
+
+-- in one way
+pub one_anew_tree : (word : List ℕ) (run : ℕ) (one other : List ℕ) (a b : ℕ) → IsStemTree word → IsPlantedAnew word run one a → IsPlantedAnew word run other b → (other ≡ one) × (b ≡ a)
+one_anew_tree word run one other a b tree x y = one_anew STEM stem_is_other (omega arith) IsRunStart word run one other a b tree.in_order.matched (two_runs word tree) x y

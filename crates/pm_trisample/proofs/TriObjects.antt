@@ -4,14 +4,18 @@ use Rattle.std.specs.Prelude.{slice_index, slice_index_or}
 use Rattle.std.proofs.lemmas.Bool.{cases_eq, cases_lt, lt-ltb, le-ltb}
 use Rattle.std.proofs.lemmas.List.{get_or-replicate, get_or_past, length-map, length-replicate}
 use Rattle.pm_brackets.specs.PlantedAt.{AreTwo, IsChosen}
-use Rattle.pm_brackets.proofs.PlantedAt.{chosen_is}
-use Rattle.pm_lehmer.specs.Lehmer.{IsArrangementOf}
+use Rattle.pm_brackets.proofs.PlantedAt.{chosen_is, one_chosen}
+use Rattle.pm_lehmer.specs.Lehmer.{IsArrangementCode, IsArrangementOf}
+use Rattle.pm_lehmer.proofs.Arranged.{IsArrangementOf-unique, has_arrangement, length-arrangement}
 use Rattle.pm_lists.specs.Valid.{IsValidList}
 use Rattle.pm_words.specs.Plane.{letter_of}
 use Rattle.pm_words.specs.Word.{IsGood, IsGoodStart, IsGoodStarts, turned}
+use Rattle.pm_words.proofs.Cycle.{good_starts_exist}
+use Rattle.pm_words.proofs.PlaneWords.{letters-word}
 use Rattle.pm_objects.specs.Codes.{code_bounds, codes_by_range}
 use Rattle.pm_objects.specs.Objects.{AreApart, arity_of, letters_of, nodes_of_ranges, range_at}
 use Rattle.pm_objects.proofs.CodeBounds.{valid_codes, valid_cons}
+use Rattle.pm_objects.proofs.ObjectCounts.{letters_sum, sum_by-arities}
 use Rattle.pm_objects.proofs.Preorders.{IsPreorder, preorder_is}
 use Rattle.pm_tri.specs.Bits.{AreTreeBits, weight}
 use Rattle.pm_tri.specs.StemTree.{nodes}
@@ -128,3 +132,45 @@ module _ (n : ℕ) (code : List ℕ) (which : ℕ) (word rest : List ℕ) (size 
 
   pub made_rest_is_valid : IsValidList rest (tri_rests n)
   made_rest_is_valid = subst (λ (r : List ℕ). IsValidList r (tri_rests n)) (sym made.rest_is) (rest_is_valid n code which made.start made.objects size long made.are_objects)
+
+-- an arrangement of the objects has two good starts
+module _ (n : ℕ) (code arrangement : List ℕ) (size : IsTriSize n) (long : length code ≡ 4 * n - 2) (arranged : IsArrangementOf code arrangement) where
+  found_starts : (starts : List ℕ) × IsGoodStarts 2 (letters_of (tri_arities n) arrangement) starts
+  found_starts =
+      let some = size.some in
+      let all = length-arrangement code arrangement arranged in
+      let children = sum_by-arities (λ arity. arity) (tri_ranges n) in
+      let total = letters_sum 2 (tri_arities n) arrangement arranged.is_permutation (omega (arith, some, long, all, ones_many n)) (omega (arith, some, long, all, children)) in
+      good_starts_exist 2 (letters_of (tri_arities n) arrangement) (omega arith) (letters-word (arity_of (tri_arities n)) arrangement) total
+
+  tri_two_starts : AreTwo (IsGoodStart 2 (letters_of (tri_arities n) arrangement))
+  tri_two_starts = two_good_starts (letters_of (tri_arities n) arrangement) found_starts.0 found_starts.1
+
+-- the objects that a code and the number of a good start give
+pub record HasTriObjects (n : ℕ) (code : List ℕ) (which : ℕ) : Type 0 where
+  pub start : ℕ
+  pub objects : List ℕ
+  pub are : AreTriObjects n code which start objects
+
+module _ (n : ℕ) (code : List ℕ) (which : ℕ) (size : IsTriSize n) (long : length code ≡ 4 * n - 2) where
+  pub tri_objects_exist : IsArrangementCode code → which < 2 → HasTriObjects n code which
+  tri_objects_exist is_code low =
+      let arranged : (arrangement : List ℕ) × IsArrangementOf code arrangement = has_arrangement code is_code in
+      let found = found_starts n code arranged.0 size long arranged.1 in
+      record {
+        start = slice_index found.0 which;
+        objects = turned (slice_index found.0 which) arranged.0;
+        are = tri_objects_read n code arranged.0 (turned (slice_index found.0 which) arranged.0) found.0 which (slice_index found.0 which) arranged.1 found.1 low refl refl;
+      }
+
+  -- they are one list, from one start
+  pub one_tri_objects : (first second : ℕ) (objects others : List ℕ) → AreTriObjects n code which first objects → AreTriObjects n code which second others → (first ≡ second) × (objects ≡ others)
+  one_tri_objects first second objects others x y =
+      let p = x.are_preordered in
+      let q = y.are_preordered in
+      let same : q.arrangement ≡ p.arrangement = IsArrangementOf-unique code q.arrangement p.arrangement q.is_arranged p.is_arranged in
+      let chosen : IsChosen (IsGoodStart 2 (letters_of (tri_arities n) p.arrangement)) which second =
+      subst (λ (xs : List ℕ). IsChosen (IsGoodStart 2 (letters_of (tri_arities n) xs)) which second) same y.is_chosen in
+      let starts : first ≡ second =
+      one_chosen (IsGoodStart 2 (letters_of (tri_arities n) p.arrangement)) (tri_two_starts n code p.arrangement size long p.is_arranged) which which first second refl x.is_chosen chosen in
+      (starts, p.are_turned ∙ ap₂ (λ (k : ℕ) (xs : List ℕ). turned k xs) starts (sym same) ∙ sym q.are_turned)

@@ -2,9 +2,11 @@
 #![tactic(auto)]
 
 mod anew;
+mod laws;
 mod objects;
 mod sample;
 
+pub use laws::tri_lists_are_sampled;
 pub use sample::{tri_sample, tri_sample_unnamed, tri_sample_valid};
 
 #[cfg(test)]
