@@ -1,11 +1,14 @@
 //! First calls of the libraries, one crate each.
-use pm_class::MapClass;
+use pm_class::{MapClass, SampleRefusal};
+use pm_draw::{draw_list, rng_of};
 use pm_general::General;
+use pm_lists::ListRefusal;
 use pm_map::RootedMap;
 use pm_mapfile::{canonical_bytes, read_map_file};
 use pm_reach::{CensusRefusal, census, layers};
-use pm_tri::{read_tri_tree, tri_replant};
+use pm_tri::{read_tri_tree, tri_choice_bounds, tri_replant};
 use pm_triclose::{TriCloseRefusal, tri_close};
+use pm_trisample::{tri_sample, tri_sample_valid};
 use std::test::Fail;
 
 // A triangle: the vertices 0 2, 1 4 and 3 5, as their rotation.
@@ -90,5 +93,20 @@ fn closes_a_stem_tree(rt: HostRuntime) -> Result<(), Fail> {
     let map = tri_close(rt.alloc(), &planted)?;
     let mut marks = vec![in rt.alloc(); false; map.sigma().len()]?;
     assert_eq!(rt; map.counts(&mut marks).vertices, 4);
+    Ok(())
+}
+
+// With 4 vertices there is one simple triangulation, the tetrahedron: each list gives it, with a residue of its own.
+#[test]
+fn samples_a_triangulation(rt: HostRuntime) -> Result<(), Fail> {
+    let bounds = tri_choice_bounds(rt.alloc(), 2)?;
+    assert_eq!(rt; bounds.values(), [6, 5, 4, 3, 2, 1, 2, 2].as_slice());
+    let choices = draw_list(rt.alloc(), &mut rng_of(7), &bounds)?;
+    let sample = tri_sample_valid(rt.alloc(), 2, choices.values())?;
+    let tetrahedron = [2, 6, 4, 9, 0, 11, 8, 5, 1, 10, 3, 7];
+    assert_eq!(rt; sample.map.sigma(), tetrahedron.as_slice());
+    let refusal = tri_sample(rt.alloc(), 2, &[0, 0, 0]).err();
+    let short = ListRefusal::Length { want: 8, have: 3 };
+    assert_eq!(rt; refusal, Some(SampleRefusal::List(short)));
     Ok(())
 }

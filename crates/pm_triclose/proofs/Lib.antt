@@ -19,7 +19,7 @@ mod PairEnds
 pub mod RenamedClosures
 pub mod SameClosures
 mod SimpleArcs
-mod SimpleClosures
+pub mod SimpleClosures
 pub mod SomeClosures
 pub mod TreeClosures
 mod TreeCorners
