@@ -197,11 +197,14 @@ check tri|map 3 0/v 0 2 1 4/v 3/v 5/end/|6|map loop 0
 check tri|map 3 0/v 2 0 3 4/v 1/v 5/end/|6|map loop 2
 check tri|map 6 0/v 0 2 4 6/v 1 10 5 8/v 3 9/v 7 11/end/|6|map double 0
 check tri|map 6 0/v 2 0 4 6/v 3 10 5 8/v 1 9/v 7 11/end/|6|map double 2
+check tri|map 12 0/v 0 18 9 13 8 16 21 7/v 1 5/v 2 17 19 4 6 23/v 3 11 14 10 22 20/v 12/v 15/end/|6|map loop 8
+check tri|map 12 0/v 0 19 15 5/v 1 13 16/v 2 23 10 21 18 17/v 3 12 4 8/v 6 11/v 7 22 9 14 20/end/|6|map double 20
 check tri|map 2 0/v 0 1 2 2/end/|6|map permutation 3
 check tri|map 4 0/v 0 1 2 3/v 4 6 5 7/end/|6|map connected 4
 check tri|map 2 0/v 0 2 1 3/end/|6|map euler 0
 check tri||3|text 1
 check tri 1||2|usage 2
+check triangle||2|usage 1
 sample tri 1|choices 0 0 0 0/|2|usage 1
 unsample tri||2|usage 1
 trip tri 5 1||2|usage 1
