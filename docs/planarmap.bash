@@ -5,7 +5,8 @@ _planarmap() {
     1) mapfile -t COMPREPLY < <(compgen -W 'sample unsample draw trip census check canon medial unmedial dual layers close open' -- "$2") ;;
     2)
         case ${COMP_WORDS[1]} in
-        sample | unsample | draw | trip | census | check) mapfile -t COMPREPLY < <(compgen -W "$classes" -- "$2") ;;
+        sample | unsample | draw | trip | census) mapfile -t COMPREPLY < <(compgen -W "$classes" -- "$2") ;;
+        check) mapfile -t COMPREPLY < <(compgen -W "$classes tri" -- "$2") ;;
         close | open) mapfile -t COMPREPLY < <(compgen -W eulerian -- "$2") ;;
         esac
         ;;

@@ -182,6 +182,35 @@ check eulerian|map 2 0/v 1/v 0 2/v 3/end/|6|map vertex 1
 check eulerian|map 33 0/v 0 1 2 3 4 5 6 7 8 9 10 11 12 13 14 15 16 17 18 19 20 21 22 23 24 25 26 27 28 29 30 31 32 33 34 35 36 37 38 39 40 41 42 43 44 45 46 47 48 49 50 51 52 53 54 55 56 57 58 59 60 61 62 63 64 65/end/|6|map vertex 0
 ";
 
+// A triangle, the tetrahedron, one with five vertices and the octahedron; and then maps that break one rule each. `tri` is
+// a word behind `check` alone.
+const TRIANGULATIONS: &str = "\
+check tri|map 3 0/v 0 2/v 1 4/v 3 5/end/|0|ok 3 3 2/
+check tri|map 3 3/v 5 3/v 4 1/v 0 2/end/residue 9 9/|0|ok 3 3 2/
+check tri|map 6 0/v 0 2 4/v 1 6 8/v 3 9 10/v 5 11 7/end/residue 0 0 0 0 0 0 0 0/|0|ok 4 6 4/
+check tri|map 9 0/v 0 2 4 6/v 1 8 10/v 3 11 12 14/v 5 15 16/v 7 17 13 9/end/|0|ok 5 9 6/
+check tri|map 12 0/v 0 2 4 6/v 1 8 10 12/v 3 13 14 16/v 5 17 18 20/v 7 21 22 9/v 11 23 19 15/end/|0|ok 6 12 8/
+check tri|map 0 0/end/|6|map empty
+check tri|map 2 0/v 0 1 2 3/end/|6|map face 0
+check tri|map 4 0/v 0 6 5/v 1 2/v 3 4/v 7/end/|6|map face 1
+check tri|map 3 0/v 0 2 1 4/v 3/v 5/end/|6|map loop 0
+check tri|map 3 0/v 2 0 3 4/v 1/v 5/end/|6|map loop 2
+check tri|map 6 0/v 0 2 4 6/v 1 10 5 8/v 3 9/v 7 11/end/|6|map double 0
+check tri|map 6 0/v 2 0 4 6/v 3 10 5 8/v 1 9/v 7 11/end/|6|map double 2
+check tri|map 12 0/v 0 18 9 13 8 16 21 7/v 1 5/v 2 17 19 4 6 23/v 3 11 14 10 22 20/v 12/v 15/end/|6|map loop 8
+check tri|map 12 0/v 0 19 15 5/v 1 13 16/v 2 23 10 21 18 17/v 3 12 4 8/v 6 11/v 7 22 9 14 20/end/|6|map double 20
+check tri|map 2 0/v 0 1 2 2/end/|6|map permutation 3
+check tri|map 4 0/v 0 1 2 3/v 4 6 5 7/end/|6|map connected 4
+check tri|map 2 0/v 0 2 1 3/end/|6|map euler 0
+check tri||3|text 1
+check tri 1||2|usage 2
+check triangle||2|usage 1
+sample tri 1|choices 0 0 0 0/|2|usage 1
+unsample tri||2|usage 1
+trip tri 5 1||2|usage 1
+census tri 1||2|usage 1
+";
+
 const SAMPLE: &str = "\
 sample quartic 1|choices 0 2 0/|0|map 2 0/v 0 1 2 3/end/residue 2 0 0/
 sample quartic 1|choices 1 0 1/|0|map 2 0/v 0 1 2 3/end/residue 1 1 0/
@@ -414,6 +443,7 @@ fn answers_and_refusals(rt: HostRuntime) -> Result<(), Fail> {
         IMAGES,
         CHECK,
         CHECK_MORE,
+        TRIANGULATIONS,
         SAMPLE,
         SAMPLE_MORE,
         UNSAMPLE,

@@ -2,6 +2,7 @@
 use Rattle.std.proofs.Common.{◌≡◌, ℕ, ◌≤◌, List, length, refl, subst}
 use Rattle.std.specs.Prelude.{Result, Ok}
 use Rattle.pm_io.specs.declared.TheConstants.{MAX_BYTES}
+use Rattle.pm_cli.specs.declared.class.Checked.TheVariants.{Sampled}
 use Rattle.pm_cli.specs.declared.command.Command.TheVariants.{Reads, Makes}
 use Rattle.pm_cli.specs.declared.command.MapTask.{MapTask}
 use Rattle.pm_cli.specs.declared.command.MapTask.TheVariants.{Canon, Medial, Unmedial, Dual}
@@ -93,7 +94,7 @@ counted_by_words laws size bytes text is x =
         map = has.map;
         residue = has.residue;
         sampled = has.sampled;
-        counted = to_words (Check (class_of size)) tt text (counts_line has.map) (sample_within laws size bytes text is samples) has.counted;
+        counted = to_words (Check (Sampled (class_of size))) tt text (counts_line has.map) (sample_within laws size bytes text is samples) has.counted;
       };
     }
 

@@ -1,14 +1,18 @@
 -- The laws of all classes.
-use Rattle.std.proofs.Common.{◌≡◌, ℕ, zero, suc, ◌<◌, ◌≤◌, lit≤, List, [], ◌∷◌, refl, ap, subst, arith}
+use Rattle.std.proofs.Common.{◌≡◌, ℕ, zero, suc, ◌<◌, ◌≤◌, lit≤, List, [], ◌∷◌, map, refl, ap, subst, arith}
 use Rattle.std.specs.Prelude.{Some, codes}
 use Rattle.std.proofs.lemmas.Fmt.{decimal_injective}
 use Rattle.pm_trees.specs.Pairs.{IsRightPair, IsProfile}
 use Rattle.pm_limits.specs.declared.TheConstants.{MAX_EDGES}
+use Rattle.pm_map.specs.ClassRules.{IsTriangulationAnswer}
+use Rattle.pm_tri.proofs.Triangulations as triangulations
+use Rattle.pm_cli.specs.declared.class.Checked.{Checked}
+use Rattle.pm_cli.specs.declared.class.Checked.TheVariants as checked
 use Rattle.pm_cli.specs.declared.class.Class.{Class}
 use Rattle.pm_cli.specs.declared.class.Class.TheVariants as class
 use Rattle.pm_cli.specs.declared.class.Size.{Size}
 use Rattle.pm_cli.specs.declared.class.Size.TheVariants as sizes
-use Rattle.pm_cli.specs.Classes.{Sampler, general_sampler, quartic_sampler, eulerian_sampler, bipartite_sampler, sampler_of, AtSize, at_size, sized, IsSize, class_of, InClass, in_class, class_at, class_word, size_word}
+use Rattle.pm_cli.specs.Classes.{Sampler, general_sampler, quartic_sampler, eulerian_sampler, bipartite_sampler, sampler_of, AtSize, at_size, sized, IsSize, class_of, InClass, in_class, class_at, counts_of, class_word, checked_word, size_word}
 use Rattle.pm_cli.specs.steps.ClassLaws.{IsSampler, IsAtSize}
 use Rattle.pm_cli.proofs.MapRelations.{IsMapRelation}
 use Rattle.pm_cli.proofs.PairTexts.{one_profile}
@@ -59,11 +63,12 @@ most class.Eulerian = omega arith
 most class.Bipartite = omega arith
 
 -- the counts of a class
-pub count_laws : AreSamplers → (c : Class) → IsMapRelation (class_at c).counts
-count_laws laws c =
+pub count_laws : AreSamplers → (c : Checked) → IsMapRelation (counts_of c)
+count_laws laws (checked.Sampled c) =
     let S : Sampler = sampler_of c in
     let of : IsSampler S = laws c in
     counting_laws S.most_edges S.answers (most c) of.one_answer of.some_answer
+count_laws laws checked.Tri = counting_laws MAX_EDGES IsTriangulationAnswer (omega arith) triangulations.one_answer triangulations.some_answer
 
 -- some size of each class
 one_is_a_profile : IsProfile ((2, 1) ∷ [])
@@ -90,6 +95,20 @@ class_found class.Bipartite = refl
 
 pub one_class : (a b : Class) → class_word a ≡ class_word b → a ≡ b
 one_class = one_value classes class_word class_found
+
+-- the words of the classes that `check` knows
+abbrev checked_classes : List (List ℕ × Checked)
+checked_classes = (codes "tri", checked.Tri) ∷ map (λ (row : List ℕ × Class). (row.0, checked.Sampled row.1)) classes
+
+checked_found : (c : Checked) → looked_up checked_classes (checked_word c) ≡ Some c
+checked_found checked.Tri = refl
+checked_found (checked.Sampled class.General) = refl
+checked_found (checked.Sampled class.Quartic) = refl
+checked_found (checked.Sampled class.Eulerian) = refl
+checked_found (checked.Sampled class.Bipartite) = refl
+
+pub one_checked : (a b : Checked) → checked_word a ≡ checked_word b → a ≡ b
+one_checked = one_value checked_classes checked_word checked_found
 
 -- sizes of a class
 data IsOfClass : Class → Size → Type 0 where

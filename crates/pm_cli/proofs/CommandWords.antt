@@ -3,6 +3,7 @@ use Rattle.std.proofs.Common.{◌≡◌, ℕ, zero, suc, ◌+◌, ◌≤◌, inl
 use Rattle.std.specs.Prelude.{codes, decimal}
 use Rattle.std.proofs.lemmas.Bool.{cases_lt}
 use Rattle.std.proofs.lemmas.Fmt.{decimal_injective}
+use Rattle.pm_cli.specs.declared.class.Checked.{Checked}
 use Rattle.pm_cli.specs.declared.class.Class.{Class}
 use Rattle.pm_cli.specs.declared.class.Size.{Size}
 use Rattle.pm_cli.specs.declared.command.Command.{Command}
@@ -12,10 +13,10 @@ use Rattle.pm_cli.specs.declared.command.Reader.TheVariants.{CloseEulerian, Open
 use Rattle.pm_cli.specs.declared.command.Maker.TheVariants.{Draw, Trip, Census}
 use Rattle.pm_cli.specs.declared.command.Verb.{Verb}
 use Rattle.pm_cli.specs.declared.command.Verb.TheVariants as verb
-use Rattle.pm_cli.specs.Classes.{class_of, class_word, size_word}
+use Rattle.pm_cli.specs.Classes.{class_of, class_word, checked_word, size_word}
 use Rattle.pm_cli.specs.Commands.{verb_word, AreDrawNumbers, verb_of, behind, spelling, IsCommand, Spells, Begins, IsNoCommand}
 use Rattle.pm_cli.specs.steps.Words.{StopsAt, AreBehind, IsBehind}
-use Rattle.pm_cli.proofs.ClassLaws.{one_class, one_size}
+use Rattle.pm_cli.proofs.ClassLaws.{one_class, one_checked, one_size}
 use Rattle.pm_cli.proofs.StoppingWords.{first_words, later_words}
 use Rattle.pm_cli.proofs.TaskLaws.{one_verb}
 
@@ -33,7 +34,7 @@ stands_behind : (command : Command) → IsCommand command → AreBehind (verb_of
 stands_behind (Reads CloseEulerian) is = record { word = codes "eulerian"; is = refl; alone = refl }
 stands_behind (Reads (OfMap task)) is = refl
 stands_behind (Reads OpenEulerian) is = record { word = codes "eulerian"; is = refl; alone = refl }
-stands_behind (Reads (Check class)) is = record { word = class_word class; is = (class, refl); alone = refl }
+stands_behind (Reads (Check class)) is = record { word = checked_word class; is = (class, refl); alone = refl }
 stands_behind (Reads (Unsample class)) is = record { word = class_word class; is = (class, refl); alone = refl }
 stands_behind (Reads (Sample size)) is = record { size = size; admissible = is; are = refl }
 stands_behind (Makes (Draw seed count) size) is =
@@ -112,7 +113,7 @@ data IsOfVerb : Verb → Command → Type 0 where
   closes : IsOfVerb verb.Close (Reads CloseEulerian)
   opens : IsOfVerb verb.Open (Reads OpenEulerian)
   prints : (task : MapTask) → IsOfVerb (verb.OfMap task) (Reads (OfMap task))
-  checks : (class : Class) → IsOfVerb verb.Check (Reads (Check class))
+  checks : (class : Checked) → IsOfVerb verb.Check (Reads (Check class))
   unsamples : (class : Class) → IsOfVerb verb.Unsample (Reads (Unsample class))
   samples : (size : Size) → IsOfVerb verb.Sample (Reads (Sample size))
   draws : (seed count : ℕ) (size : Size) → IsOfVerb verb.Draw (Makes (Draw seed count) size)
@@ -143,7 +144,7 @@ one_of_verb : (v : Verb) (a b : Command) → IsOfVerb v a → IsOfVerb v b → I
 one_of_verb _ _ _ closes closes x y e = refl
 one_of_verb _ _ _ opens opens x y e = refl
 one_of_verb _ _ _ (prints task) (prints _) x y e = refl
-one_of_verb _ _ _ (checks a) (checks b) x y e = ap (λ (class : Class). Reads (Check class)) (one_class a b (first_words e))
+one_of_verb _ _ _ (checks a) (checks b) x y e = ap (λ (class : Checked). Reads (Check class)) (one_checked a b (first_words e))
 one_of_verb _ _ _ (unsamples a) (unsamples b) x y e = ap (λ (class : Class). Reads (Unsample class)) (one_class a b (first_words e))
 one_of_verb _ _ _ (samples a) (samples b) x y e = ap (λ (size : Size). Reads (Sample size)) (one_size a b x y (first_words e) (first_words (later_words e)))
 one_of_verb _ _ _ (draws s c a) (draws t d b) x y e =

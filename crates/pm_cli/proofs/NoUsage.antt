@@ -15,7 +15,7 @@ use Rattle.pm_cli.specs.declared.refusal.Refusal.{Refusal}
 use Rattle.pm_cli.specs.declared.refusal.Stop.{Stop}
 use Rattle.pm_cli.specs.declared.refusal.Stop.TheVariants.{Refused, Read, Write, Memory}
 use Rattle.pm_cli.specs.Answer.{AnswersReader}
-use Rattle.pm_cli.specs.Classes.{InClass, class_at, AtSize, sized}
+use Rattle.pm_cli.specs.Classes.{InClass, class_at, counts_of, AtSize, sized}
 use Rattle.pm_cli.specs.Closing.{ClosesEulerian, closed, no_tree, matched}
 use Rattle.pm_cli.specs.Lines.{status_of_refusal, status_of_stop}
 use Rattle.pm_cli.specs.MapAnswers.{rule_of_lines, rule_of_class, RefusesFile, broken, makes_none, MapRelation, AnswersMap, told, no_map, breaks, task_relation, opening}
@@ -97,7 +97,7 @@ by_reader : (reader : Reader) (bytes : List ℕ) (answer : Result (List ℕ) Ref
 by_reader CloseEulerian bytes answer h e = by_tree bytes answer h e
 by_reader OpenEulerian bytes answer h e = by_map opening bytes answer h e
 by_reader (OfMap task) bytes answer h e = by_map (task_relation task) bytes answer h e
-by_reader (Check class) bytes answer h e = by_map (class_at class).counts bytes answer h e
+by_reader (Check class) bytes answer h e = by_map (counts_of class) bytes answer h e
 by_reader (Unsample class) bytes answer h e = by_pair (class_at class) bytes answer h e
 by_reader (Sample size) bytes answer h e = by_choices (sized size) bytes answer h e
 

@@ -12,7 +12,7 @@ use Rattle.pm_cli.specs.declared.command.Reader.TheVariants.{CloseEulerian, Open
 use Rattle.pm_cli.specs.declared.refusal.Refusal.{Refusal}
 use Rattle.pm_cli.specs.declared.refusal.Refusal.TheVariants.{Usage}
 use Rattle.pm_cli.specs.Answer.{AnswersReader, AnswersSize, no_command, too_long, of_file, of_size}
-use Rattle.pm_cli.specs.Classes.{sampler_of, AtSize, sized, IsSize, InClass, class_at}
+use Rattle.pm_cli.specs.Classes.{sampler_of, AtSize, sized, IsSize, InClass, class_at, counts_of}
 use Rattle.pm_cli.specs.Commands.{IsReader}
 use Rattle.pm_cli.specs.Laws.{HasOneAnswer}
 use Rattle.pm_cli.specs.MapAnswers.{task_relation, opening}
@@ -43,7 +43,7 @@ module _ (laws : AreSamplers) where
   reads_once CloseEulerian is bytes a b x y = closes_once bytes a b x y
   reads_once OpenEulerian is bytes a b x y = map_answers_once opening opening_laws bytes a b x y
   reads_once (OfMap task) is bytes a b x y = map_answers_once (task_relation task) (task_laws task) bytes a b x y
-  reads_once (Check class) is bytes a b x y = map_answers_once (class_at class).counts (count_laws laws class) bytes a b x y
+  reads_once (Check class) is bytes a b x y = map_answers_once (counts_of class) (count_laws laws class) bytes a b x y
   reads_once (Unsample class) is bytes a b x y = unsamples_once (class_at class) (one_pair class) bytes a b x y
   reads_once (Sample size) is bytes a b x y = let one = one_at size is in samples_once (sized size) one.one_sample (λ c m r h. let only = one.only c m r h in only.valid) bytes a b x y
 

@@ -14,7 +14,7 @@ use Rattle.pm_cli.specs.declared.command.Reader.TheVariants.{CloseEulerian, Open
 use Rattle.pm_cli.specs.declared.refusal.Limit.TheVariants.{Bytes}
 use Rattle.pm_cli.specs.declared.refusal.Refusal.TheVariants.{Usage, Limited}
 use Rattle.pm_cli.specs.Answer.{Answers, AnswersReader, AnswersSize, no_command, too_long, of_file, of_size}
-use Rattle.pm_cli.specs.Classes.{sampler_of, sized, IsSize, class_at}
+use Rattle.pm_cli.specs.Classes.{sampler_of, sized, IsSize, counts_of}
 use Rattle.pm_cli.specs.Commands.{IsReader, Spells, Begins, IsNoCommand}
 use Rattle.pm_cli.specs.Laws.{IsAnswered, HasSomeAnswer}
 use Rattle.pm_cli.specs.MapAnswers.{task_relation, opening}
@@ -37,7 +37,7 @@ module _ (laws : AreSamplers) where
   reads_answered CloseEulerian is bytes = closes_answered bytes
   reads_answered OpenEulerian is bytes = map_answered opening opening_laws bytes
   reads_answered (OfMap task) is bytes = map_answered (task_relation task) (task_laws task) bytes
-  reads_answered (Check c) is bytes = map_answered (class_at c).counts (count_laws laws c) bytes
+  reads_answered (Check c) is bytes = map_answered (counts_of c) (count_laws laws c) bytes
   reads_answered (Unsample c) is bytes = unsamples_answered (sampler_of c) (laws c) (most c) bytes
   reads_answered (Sample size) is bytes = samples_answered (sized size) (sized_laws laws size is) bytes
 

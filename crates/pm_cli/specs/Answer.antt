@@ -10,7 +10,7 @@ use Rattle.pm_cli.specs.declared.command.Reader.TheVariants.{CloseEulerian, Open
 use Rattle.pm_cli.specs.declared.refusal.Limit.TheVariants.{Bytes}
 use Rattle.pm_cli.specs.declared.refusal.Refusal.{Refusal}
 use Rattle.pm_cli.specs.declared.refusal.Refusal.TheVariants.{Usage, Limited}
-use Rattle.pm_cli.specs.Classes.{AtSize, sized, InClass, class_at}
+use Rattle.pm_cli.specs.Classes.{AtSize, sized, class_at, counts_of}
 use Rattle.pm_cli.specs.Closing.{ClosesEulerian}
 use Rattle.pm_cli.specs.Commands.{Spells, IsNoCommand}
 use Rattle.pm_cli.specs.Counting.{Counts}
@@ -25,7 +25,7 @@ abbrev pub AnswersReader : Reader → List ℕ → Result (List ℕ) Refusal →
 AnswersReader CloseEulerian bytes answer = ClosesEulerian bytes answer
 AnswersReader OpenEulerian bytes answer = AnswersMap opening bytes answer
 AnswersReader (OfMap task) bytes answer = AnswersMap (task_relation task) bytes answer
-AnswersReader (Check class) bytes answer = AnswersMap (let at : InClass = class_at class in at.counts) bytes answer
+AnswersReader (Check class) bytes answer = AnswersMap (counts_of class) bytes answer
 AnswersReader (Unsample class) bytes answer = Unsamples (class_at class) bytes answer
 AnswersReader (Sample size) bytes answer = Samples (sized size) bytes answer
 

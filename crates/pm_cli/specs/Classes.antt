@@ -3,7 +3,7 @@ use Rattle.std.specs.Prelude.{ℕ, List, Result, codes, decimal}
 use Rattle.pm_limits.specs.declared.TheConstants.{MAX_EDGES}
 use Rattle.pm_trees.specs.Pairs.{IsProfile}
 use Rattle.pm_map.specs.declared.class_refusal.ClassRefusal.{ClassRefusal}
-use Rattle.pm_map.specs.ClassRules.{IsQuarticAnswer}
+use Rattle.pm_map.specs.ClassRules.{IsQuarticAnswer, IsTriangulationAnswer}
 use Rattle.pm_map.specs.Classes.{IsQuartic, IsEulerian, IsGeneral, IsBipartite}
 use Rattle.pm_map.specs.Rotation.{RotationSystem, structure_of}
 use Rattle.pm_class.specs.declared.sample.UnsampleRefusal.{UnsampleRefusal}
@@ -13,6 +13,8 @@ use Rattle.pm_euler.specs.Eulerian.{IsEulerianAnswer, SamplesEulerian}
 use Rattle.pm_euler.specs.Quartic.{IsQuarticSize, SamplesQuartic}
 use Rattle.pm_general.specs.Bipartite.{IsBipartiteAnswer, SamplesBipartite}
 use Rattle.pm_general.specs.General.{most_general_edges, IsGeneralAnswer, IsGeneralSize, SamplesGeneral}
+use Rattle.pm_cli.specs.declared.class.Checked.{Checked}
+use Rattle.pm_cli.specs.declared.class.Checked.TheVariants as checked
 use Rattle.pm_cli.specs.declared.class.Class.{Class}
 use Rattle.pm_cli.specs.declared.class.Class.TheVariants as class
 use Rattle.pm_cli.specs.declared.class.Size.{Size}
@@ -131,12 +133,21 @@ in_class S = record { most_edges = S.most_edges; counts = counting S.most_edges 
 abbrev pub class_at : Class → InClass
 class_at class = in_class (sampler_of class)
 
+-- what `check` answers to a map, by the class
+abbrev pub counts_of : Checked → MapRelation
+counts_of (checked.Sampled class) = let at : InClass = class_at class in at.counts
+counts_of checked.Tri = counting MAX_EDGES IsTriangulationAnswer
+
 -- the words of classes and of their sizes
 abbrev pub class_word : Class → List ℕ
 class_word class.General = codes "general"
 class_word class.Quartic = codes "quartic"
 class_word class.Eulerian = codes "eulerian"
 class_word class.Bipartite = codes "bipartite"
+
+abbrev pub checked_word : Checked → List ℕ
+checked_word (checked.Sampled class) = class_word class
+checked_word checked.Tri = codes "tri"
 
 abbrev pub size_word : Size → List ℕ
 size_word (sizes.General size) = decimal size

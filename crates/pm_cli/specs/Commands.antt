@@ -11,7 +11,7 @@ use Rattle.pm_cli.specs.declared.command.Maker.TheVariants.{Draw, Trip, Census}
 use Rattle.pm_cli.specs.declared.words.TheConstants.{MAX_RECORDS}
 use Rattle.pm_cli.specs.declared.command.Verb.{Verb}
 use Rattle.pm_cli.specs.declared.command.Verb.TheVariants as verb
-use Rattle.pm_cli.specs.Classes.{IsSize, class_of, class_word, size_word}
+use Rattle.pm_cli.specs.Classes.{IsSize, class_of, class_word, checked_word, size_word}
 
 abbrev pub verb_word : Verb → List ℕ
 verb_word verb.Close = codes "close"
@@ -52,7 +52,7 @@ abbrev pub behind : Command → List (List ℕ)
 behind (Reads CloseEulerian) = codes "eulerian" ∷ []
 behind (Reads (OfMap task)) = []
 behind (Reads OpenEulerian) = codes "eulerian" ∷ []
-behind (Reads (Check class)) = class_word class ∷ []
+behind (Reads (Check class)) = checked_word class ∷ []
 behind (Reads (Unsample class)) = class_word class ∷ []
 behind (Reads (Sample size)) = size_words size []
 behind (Makes (Draw seed count) size) = size_words size (number_words seed count)

@@ -3,6 +3,7 @@ use Rattle.std.specs.Prelude.{◌≡◌, ℕ, List, ◌++◌, Result, Ok, ⊤}
 use Rattle.pm_limits.specs.declared.TheConstants.{MAX_EDGES}
 use Rattle.pm_map.specs.Rotation.{RotationSystem}
 use Rattle.pm_mapfile.specs.MapFile.{IsResidueLine}
+use Rattle.pm_cli.specs.declared.class.Checked.TheVariants.{Sampled}
 use Rattle.pm_cli.specs.declared.class.Class.{Class}
 use Rattle.pm_cli.specs.declared.class.Size.{Size}
 use Rattle.pm_cli.specs.declared.command.MapTask.TheVariants.{Canon, Medial, Unmedial, Dual}
@@ -89,7 +90,7 @@ pub record IsCounted (samples : RotationSystem → List ℕ → Type 0) (answer 
 abbrev pub SampledMapsAreCounted : (Reader → List ℕ → Result (List ℕ) Refusal → Type 0) → Type 0
 SampledMapsAreCounted answers =
     (size : Size) (bytes text : List ℕ) → IsSize size → answers (Sample size) bytes (Ok text)
-    → HasChoices bytes (λ choices. let at : AtSize = sized size in IsCounted (at.samples choices) (λ line. answers (Check (class_of size)) text (Ok line)))
+    → HasChoices bytes (λ choices. let at : AtSize = sized size in IsCounted (at.samples choices) (λ line. answers (Check (Sampled (class_of size))) text (Ok line)))
 
 -- For the size of the map in the map file, which is of the class, what is sampled of a file of choices is the text of a map
 -- and the residue line of the map file.

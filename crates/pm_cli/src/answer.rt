@@ -8,7 +8,7 @@ ghost use Rattle.pm_cli.specs.Ending.{IsFirstRecords};
 ghost use Rattle.pm_cli.specs.steps.Answering.{IsAnswerBy};
 ghost use Rattle.pm_cli.specs.steps.Streams.{IsWritingRecords};
 
-use crate::check::check_class;
+use crate::check::check;
 use crate::class::{Class, Size};
 use crate::close::close_eulerian;
 use crate::command::{Maker, Reader};
@@ -34,18 +34,7 @@ pub(crate) fn answer(alloc: Global, reader: &Reader, bytes: &[u8]) -> Result<Vec
         Reader::CloseEulerian => close_eulerian(alloc, bytes),
         Reader::OpenEulerian => open_eulerian(alloc, bytes),
         Reader::OfMap(task) => print(alloc, *task, bytes),
-        Reader::Check(Class::General) => check_class::<General>(alloc, bytes, General::MOST_EDGES),
-        Reader::Check(Class::Quartic) => check_class::<Quartic>(alloc, bytes, Quartic::MOST_EDGES),
-        Reader::Check(Class::Eulerian) => check_class::<Eulerian>(
-            alloc,
-            bytes,
-            Eulerian::MOST_EDGES,
-        ),
-        Reader::Check(Class::Bipartite) => check_class::<Bipartite>(
-            alloc,
-            bytes,
-            Bipartite::MOST_EDGES,
-        ),
+        Reader::Check(class) => check(alloc, *class, bytes),
         Reader::Unsample(Class::General) => unsample::<General>(alloc, bytes, General::MOST_EDGES),
         Reader::Unsample(Class::Quartic) => unsample::<Quartic>(alloc, bytes, Quartic::MOST_EDGES),
         Reader::Unsample(Class::Eulerian) => unsample::<Eulerian>(

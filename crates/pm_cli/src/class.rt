@@ -1,8 +1,10 @@
 //! The classes of maps that commands know, their sizes, the words of both, and their laws.
-ghost use Rattle.std.specs.Prelude.{◌≡◌, ◌≢◌, ℕ, ◌<◌, ◌^◌, decimal, string_bytes, IfOk, MatchOption};
+ghost use Rattle.std.specs.Prelude.{◌≡◌, ◌≢◌, ℕ, ◌<◌, ◌^◌, List, decimal, string_bytes, IfOk, MatchOption};
 ghost use Rattle.pm_cli.specs.declared.class.Class.{Class};
+ghost use Rattle.pm_cli.specs.declared.class.Class.TheVariants.{Eulerian as AClass};
+ghost use Rattle.pm_cli.specs.declared.class.Checked.TheVariants.{Tri as AChecked};
 ghost use Rattle.pm_cli.specs.declared.class.Size.{Size};
-ghost use Rattle.pm_cli.specs.Classes.{sampler_of, class_of, IsSize, class_word, size_word};
+ghost use Rattle.pm_cli.specs.Classes.{sampler_of, class_of, IsSize, class_word, checked_word, size_word};
 ghost use Rattle.pm_cli.specs.steps.ClassLaws.{IsSampler};
 
 use crate::laws::law;
@@ -26,6 +28,15 @@ pub enum Class {
     Bipartite,
 }
 
+/// A class of maps that `check` knows.
+#[derive(Clone, Copy)]
+pub enum Checked {
+    /// One that can be sampled.
+    Sampled(Class),
+    /// Simple triangulations: every face has degree 3, no edge is a loop, and no two have the same ends.
+    Tri,
+}
+
 /// A class, and the size of a map of it.
 #[derive(Drop)]
 pub enum Size {
@@ -39,17 +50,44 @@ pub enum Size {
     Bipartite(Profile),
 }
 
-impl Class {
-    // The class that the word is, where it is one.
-    pub(crate) fn of_word(word: &String) -> Option<Class>
-        ensures { MatchOption result ((class : Class) → string_bytes word.now ≢ class_word class) (λ class. string_bytes word.now ≡ class_word class) }
-    {
+// Values that one word of a command spells.
+pub(crate) trait Spelled: Copy {
+    // The word of each value.
+    ghost word_of: { Self → List ℕ };
+
+    // One of the values.
+    ghost some: { Self };
+
+    // The value that the word spells, where there is one.
+    fn of_word(word: &String) -> Option<Self>
+        ensures { MatchOption result ((it : Self) → string_bytes word.now ≢ word_of it) (λ it. string_bytes word.now ≡ word_of it) };
+}
+
+impl Spelled for Class {
+    ghost word_of = { class_word };
+
+    ghost some = { AClass };
+
+    fn of_word(word: &String) -> Option<Class> {
         match word.as_str() {
             "general" => Some(Class::General),
             "quartic" => Some(Class::Quartic),
             "eulerian" => Some(Class::Eulerian),
             "bipartite" => Some(Class::Bipartite),
             _ => None,
+        }
+    }
+}
+
+impl Spelled for Checked {
+    ghost word_of = { checked_word };
+
+    ghost some = { AChecked };
+
+    fn of_word(word: &String) -> Option<Checked> {
+        match word.as_str() {
+            "tri" => Some(Checked::Tri),
+            _ => Class::of_word(word).map(Checked::Sampled),
         }
     }
 }

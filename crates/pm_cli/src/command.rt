@@ -3,7 +3,7 @@ ghost use Rattle.std.specs.Prelude.{◌≡◌, ◌≢◌, string_bytes, MatchOpt
 ghost use Rattle.pm_cli.specs.declared.command.Verb.{Verb};
 ghost use Rattle.pm_cli.specs.Commands.{verb_word};
 
-use crate::class::{Class, Size};
+use crate::class::{Checked, Class, Size};
 
 /// A command, by where its answer comes from.
 #[derive(Drop)]
@@ -24,7 +24,7 @@ pub enum Reader {
     /// Prints a text for any map.
     OfMap(MapTask),
     /// `check CLASS`: counts the vertices, edges and faces of a map of the class.
-    Check(Class),
+    Check(Checked),
     /// `unsample CLASS`: answers the choices of a map of the class and a residue.
     Unsample(Class),
     /// `sample CLASS SIZE`: answers the map and the residue of a list of choices.

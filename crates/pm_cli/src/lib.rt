@@ -25,7 +25,7 @@ mod unsample;
 mod words;
 mod writing;
 
-pub use class::{Class, Size};
+pub use class::{Checked, Class, Size};
 pub use command::{Command, Maker, MapTask, Reader, Verb};
 pub use engine::run;
 pub use laws::{

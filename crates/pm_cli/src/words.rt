@@ -6,11 +6,11 @@ ghost use Rattle.pm_cli.specs.declared.command.Command.TheVariants.{Reads};
 ghost use Rattle.pm_cli.specs.declared.command.Verb.{Verb};
 ghost use Rattle.pm_cli.specs.declared.command.Verb.TheVariants.{Close, Draw, Trip};
 ghost use Rattle.pm_cli.specs.declared.command.Reader.{Reader};
-ghost use Rattle.pm_cli.specs.Classes.{IsSize, class_word};
+ghost use Rattle.pm_cli.specs.Classes.{IsSize};
 ghost use Rattle.pm_cli.specs.Commands.{size_words, Spells, IsNoCommand, AreDrawNumbers, number_words};
-ghost use Rattle.pm_cli.specs.steps.Words.{StopsAt, IsOneOf, IsClassWord, AreSizeWords, AreNumberWords, AreSeedWords, AreDrawWords, AreTripWords, AreBehind, IsBehind};
+ghost use Rattle.pm_cli.specs.steps.Words.{StopsAt, IsOneOf, IsWordOf, AreSizeWords, AreNumberWords, AreSeedWords, AreDrawWords, AreTripWords, AreBehind, IsBehind};
 
-use crate::class::{Class, Size};
+use crate::class::{Class, Size, Spelled};
 use crate::command::{Command, Maker, Reader, Verb};
 use pm_text::number;
 use std::alloc::{AllocError, Global};
@@ -144,18 +144,18 @@ fn eulerian_alone(words: &[String]) -> Result<(), u32>
     if rest.is_empty() { Ok(()) } else { Err(1) }
 }
 
-// Reads the one word of a class, or says how many of the words begin one.
-fn class_alone(words: &[String]) -> Result<Class, u32>
-    ensures { MatchResult result (λ class. map string_bytes words.now ≡ class_word class ∷ [])
-        (λ k. (k < 2) × StopsAt (IsOneOf IsClassWord) (map string_bytes words.now) k) }
+// Reads one word alone, or says how many of the words begin such words.
+fn alone<W: Spelled>(words: &[String]) -> Result<W, u32>
+    ensures { MatchResult result (λ it. map string_bytes words.now ≡ W.word_of it ∷ [])
+        (λ k. (k < 2) × StopsAt (IsOneOf (IsWordOf W.word_of)) (map string_bytes words.now) k) }
 {
     let Some((first, rest)) = words.split_first() else {
         return Err(0);
     };
-    let Some(class) = Class::of_word(first) else {
+    let Some(it) = W::of_word(first) else {
         return Err(0);
     };
-    if rest.is_empty() { Ok(class) } else { Err(1) }
+    if rest.is_empty() { Ok(it) } else { Err(1) }
 }
 
 impl Command {
@@ -180,10 +180,8 @@ impl Command {
                     Ok(Err(0))
                 }
             }
-            Verb::Check => Ok(class_alone(words).map(|class| Command::Reads(Reader::Check(class)))),
-            Verb::Unsample => Ok(class_alone(words).map(|class| Command::Reads(Reader::Unsample(
-                class,
-            )))),
+            Verb::Check => Ok(alone(words).map(|class| Command::Reads(Reader::Check(class)))),
+            Verb::Unsample => Ok(alone(words).map(|class| Command::Reads(Reader::Unsample(class)))),
             Verb::Sample => Ok(size_alone(alloc, words)?.map(|size| Command::Reads(Reader::Sample(
                 size,
             )))),

@@ -1,12 +1,11 @@
 -- How words are read as a command, piece by piece.
 use Rattle.std.specs.Prelude.{◌≡◌, ℕ, suc, ◌<◌, ◌≤◌, ◌^◌, List, [], ◌∷◌, length, take, decimal}
-use Rattle.pm_cli.specs.declared.class.Class.{Class}
 use Rattle.pm_cli.specs.declared.class.Class.TheVariants as class
 use Rattle.pm_cli.specs.declared.class.Size.{Size}
 use Rattle.pm_cli.specs.declared.command.Command.{Command}
 use Rattle.pm_cli.specs.declared.command.Verb.{Verb}
 use Rattle.pm_cli.specs.declared.command.Verb.TheVariants as verb
-use Rattle.pm_cli.specs.Classes.{IsSize, class_word}
+use Rattle.pm_cli.specs.Classes.{IsSize, class_word, checked_word}
 use Rattle.pm_cli.specs.Commands.{size_words, number_words, verb_of, behind, IsCommand, AreDrawNumbers}
 
 -- the words are none of a set; the first k begin words of the set, and no more do
@@ -23,8 +22,9 @@ pub record IsOneOf (is_word : List ℕ → Type 0) (words : List (List ℕ)) : T
   pub is : is_word word
   pub alone : words ≡ word ∷ []
 
-abbrev pub IsClassWord : List ℕ → Type 0
-IsClassWord word = (class : Class) × (word ≡ class_word class)
+-- the word of some value
+abbrev pub IsWordOf : {X : Type 0} → (X → List ℕ) → List ℕ → Type 0
+IsWordOf {X} word_of word = (it : X) × (word ≡ word_of it)
 
 -- a class and a size of it
 pub record AreSizeWords (words : List (List ℕ)) : Type 0 where
@@ -67,9 +67,9 @@ abbrev pub AreBehind : Verb → List (List ℕ) → Type 0
 AreBehind verb.Close = IsOneOf (λ word. word ≡ class_word class.Eulerian)
 AreBehind verb.Open = IsOneOf (λ word. word ≡ class_word class.Eulerian)
 AreBehind (verb.OfMap task) = λ words. words ≡ []
-AreBehind verb.Check = IsOneOf IsClassWord
+AreBehind verb.Check = IsOneOf (IsWordOf checked_word)
 AreBehind verb.Sample = AreSizeWords
-AreBehind verb.Unsample = IsOneOf IsClassWord
+AreBehind verb.Unsample = IsOneOf (IsWordOf class_word)
 AreBehind verb.Draw = AreDrawWords
 AreBehind verb.Trip = AreTripWords
 AreBehind verb.Census = AreSizeWords
