@@ -1,0 +1,3 @@
+mod LedWalked
+mod LedWhole
+mod PickedEdges

@@ -1,0 +1,6 @@
+//! Where darts that go out lead: which structures the walk passes whole, and which orientation it follows.
+#![tactic(auto)]
+
+mod laws;
+
+pub use laws::each_led_map_is_walked;
