@@ -1,3 +1,5 @@
+mod HeadsFound
 mod LedWalked
 mod LedWhole
 mod PickedEdges
+mod WalkedLed

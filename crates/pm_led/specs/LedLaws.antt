@@ -22,3 +22,7 @@ pub record IsWalkedNested (s : Structure) (out : ℕ → Bool) : Type 0 where
 
 abbrev pub EachLedMapIsWalked : Type 0
 EachLedMapIsWalked = (s : Structure) (out : ℕ → Bool) → IsStructure s → 0 < s.darts → HasEulerTwo s → IsLedBothWays s out → IsWalkedNested s out
+
+-- the converse
+abbrev pub EachWalkedMapIsLed : Type 0
+EachWalkedMapIsLed = (s : Structure) (out : ℕ → Bool) → IsStructure s → IsWalked s out → IsLedBothWays s out
