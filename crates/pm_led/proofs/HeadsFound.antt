@@ -16,7 +16,7 @@ use Rattle.pm_led.specs.Heads.{IsHead, HasHead, VerticesHaveHeads}
 
 module _ (s : Structure) (out : ℕ → Bool) (is : IsStructure s) (some : 0 < s.darts) (euler : HasEulerTwo s) (walked : IsWalkedInOrder s out) where
   -- what a vertex holds of a head's stretch it holds wholly
-  around_same : (q : ℕ) → q < s.darts → IsHead s out q → (steps d : ℕ) → d < s.darts
+  pub around_same : (q : ℕ) → q < s.darts → IsHead s out q → (steps d : ℕ) → d < s.darts
       → is_between (suc (s.twin q)) (suc q) (repeated s.next steps d) ≡ is_between (suc (s.twin q)) (suc q) d
   around_same q l h zero d m = refl
   around_same q l h (suc steps) d m =

@@ -1,5 +1,7 @@
 mod HeadsFound
 mod LedWalked
 mod LedWhole
+mod OutCounts
 mod PickedEdges
+mod Potential
 mod WalkedLed

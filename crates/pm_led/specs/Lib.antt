@@ -1,3 +1,4 @@
 pub mod Heads
 pub mod LedLaws
+pub mod Orientation
 pub mod Walked

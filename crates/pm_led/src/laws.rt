@@ -1,6 +1,7 @@
 //! Laws of walks and of the darts that lead to all vertices and faces, for the crates above.
 ghost use Rattle.pm_led.specs.Heads.{VerticesHaveHeads};
 ghost use Rattle.pm_led.specs.LedLaws.{EachLedMapIsWalked, EachWalkedMapIsLed};
+ghost use Rattle.pm_led.specs.Orientation.{OneOrientation};
 
 /// A law: in a plane structure with a dart, where darts that do not pass a test lead from the root's vertex to all vertices,
 /// and darts that pass it from the root's face to all faces, the walk that the test makes meets every dart. The edges that
@@ -18,4 +19,10 @@ pub fn each_walked_map_is_led()
 /// of a kept edge at which the walk meets the edge again, and that is its last dart; the root's vertex has none.
 pub fn vertices_have_heads()
     ensures { VerticesHaveHeads }
+{}
+
+/// A law: where the darts of a plane structure are numbered along its walk, and of each edge just one dart goes out, no other
+/// orientation lets out as many darts at each vertex and leads from the root's face to all faces.
+pub fn one_orientation()
+    ensures { OneOrientation }
 {}

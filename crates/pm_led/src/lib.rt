@@ -3,4 +3,6 @@
 
 mod laws;
 
-pub use laws::{each_led_map_is_walked, each_walked_map_is_led, vertices_have_heads};
+pub use laws::{
+    each_led_map_is_walked, each_walked_map_is_led, one_orientation, vertices_have_heads,
+};
