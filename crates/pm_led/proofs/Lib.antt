@@ -1,3 +1,4 @@
+mod CarriedOrientation
 mod HeadsFound
 mod LedWalked
 mod LedWhole

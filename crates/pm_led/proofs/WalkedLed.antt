@@ -9,9 +9,9 @@ use Rattle.pm_walk.proofs.LedWalk.{walked_is_led}
 use Rattle.pm_led.specs.LedLaws.{EachWalkedMapIsLed}
 use Rattle.pm_led.specs.Walked.{IsWalked}
 
--- what a structure is carried from is led where it is
-led_back : (f : ℕ → ℕ) (a b : Structure) (passes other : ℕ → Bool) → CarriesTo f a b → ((k : ℕ) → k < a.darts → other k ≡ passes (f k)) → 0 < a.darts → IsLed a other → IsLed b passes
-led_back f a b passes other carries same some led holds root closed d l =
+-- what a led structure is carried to is led
+pub led_carried : (f : ℕ → ℕ) (a b : Structure) (passes other : ℕ → Bool) → CarriesTo f a b → ((k : ℕ) → k < a.darts → other k ≡ passes (f k)) → 0 < a.darts → IsLed a other → IsLed b passes
+led_carried f a b passes other carries same some led holds root closed d l =
     let inside : d < a.darts = omega (arith, carries.darts) in
     let stays : (x : ℕ) → x < a.darts → f x < b.darts = λ x h. subst (λ n. f x < n) carries.darts (carries.renumbers.stays x h) in
     subst (λ x. IsTrue (holds x)) (value-place_of f a.darts d carries.renumbers inside)
@@ -22,7 +22,7 @@ led_back f a b passes other carries same some led holds root closed d l =
     }) (place_of f a.darts d) (place_of-stays f a.darts d carries.renumbers inside))
 
 -- the test of a place is that of its dart
-passes_back : (s : Structure) (out : ℕ → Bool) (w : IsWalked s out) → (k : ℕ) → k < w.walked.darts → w.passes k ≡ out (place_of w.rename s.darts k)
+pub passes_back : (s : Structure) (out : ℕ → Bool) (w : IsWalked s out) → (k : ℕ) → k < w.walked.darts → w.passes k ≡ out (place_of w.rename s.darts k)
 passes_back s out w k l =
     let inside : k < s.darts = omega (arith, w.carries.darts) in
     ap w.passes (sym (value-place_of w.rename s.darts k w.carries.renumbers inside)) ∙ w.same (place_of w.rename s.darts k) (place_of-stays w.rename s.darts k w.carries.renumbers inside)
@@ -32,8 +32,8 @@ each_walked_is_led s out is w =
     let back : CarriesTo (place_of w.rename s.darts) w.walked s = carries_back w.rename s w.walked is w.carries in
     let led = walked_is_led w.walked w.passes w.structure w.in_order in
     record {
-      vertices = λ holds root closed d l. led_back (place_of w.rename s.darts) w.walked s (λ k. not (out k)) (λ k. not (w.passes k)) back
+      vertices = λ holds root closed d l. led_carried (place_of w.rename s.darts) w.walked s (λ k. not (out k)) (λ k. not (w.passes k)) back
           (λ k h. ap not (passes_back s out w k h)) (omega (arith, w.carries.darts, l)) led.0 holds root closed d l;
-      faces = λ holds root closed d l. led_back (place_of w.rename s.darts) (dual w.walked) (dual s) out w.passes
+      faces = λ holds root closed d l. led_carried (place_of w.rename s.darts) (dual w.walked) (dual s) out w.passes
           (dual_carries (place_of w.rename s.darts) w.walked s w.structure back) (passes_back s out w) (omega (arith, w.carries.darts, l)) led.1 holds root closed d l;
     }

@@ -6,6 +6,7 @@ use Rattle.pm_map.specs.Structure.{Structure, IsStructure, dual}
 use Rattle.pm_map.specs.Plane.{HasEulerTwo}
 use Rattle.pm_walk.specs.Led.{IsLed}
 use Rattle.pm_walk.specs.Walk.{IsWalkedInOrder}
+use Rattle.pm_led.specs.Walked.{IsWalked}
 
 -- of the two darts of each edge just one goes out
 pub record IsOrientation (s : Structure) (out : ℕ → Bool) : Type 0 where
@@ -24,4 +25,9 @@ pub record HaveSameDegrees (s : Structure) (out other : ℕ → Bool) : Type 0 w
 -- the walk follows the only orientation of its degrees that leads to all faces
 abbrev pub OneOrientation : Type 0
 OneOrientation = (s : Structure) (out other : ℕ → Bool) → IsStructure s → 0 < s.darts → HasEulerTwo s → IsWalkedInOrder s out → HaveSameDegrees s out other
+    → IsLed (dual s) other → (d : ℕ) → d < s.darts → other d ≡ out d
+
+-- the same where the walk meets every dart, whatever their numbers
+abbrev pub WalkedMapHasOneOrientation : Type 0
+WalkedMapHasOneOrientation = (s : Structure) (out other : ℕ → Bool) → IsStructure s → 0 < s.darts → HasEulerTwo s → IsWalked s out → HaveSameDegrees s out other
     → IsLed (dual s) other → (d : ℕ) → d < s.darts → other d ≡ out d

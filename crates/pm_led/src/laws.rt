@@ -1,7 +1,7 @@
 //! Laws of walks and of the darts that lead to all vertices and faces, for the crates above.
 ghost use Rattle.pm_led.specs.Heads.{VerticesHaveHeads};
 ghost use Rattle.pm_led.specs.LedLaws.{EachLedMapIsWalked, EachWalkedMapIsLed};
-ghost use Rattle.pm_led.specs.Orientation.{OneOrientation};
+ghost use Rattle.pm_led.specs.Orientation.{OneOrientation, WalkedMapHasOneOrientation};
 
 /// A law: in a plane structure with a dart, where darts that do not pass a test lead from the root's vertex to all vertices,
 /// and darts that pass it from the root's face to all faces, the walk that the test makes meets every dart. The edges that
@@ -25,4 +25,9 @@ pub fn vertices_have_heads()
 /// orientation lets out as many darts at each vertex and leads from the root's face to all faces.
 pub fn one_orientation()
     ensures { OneOrientation }
+{}
+
+/// A law: the same where the walk meets every dart of a plane structure, whatever the numbers of its darts.
+pub fn walked_map_has_one_orientation()
+    ensures { WalkedMapHasOneOrientation }
 {}

@@ -5,4 +5,5 @@ mod laws;
 
 pub use laws::{
     each_led_map_is_walked, each_walked_map_is_led, one_orientation, vertices_have_heads,
+    walked_map_has_one_orientation,
 };
