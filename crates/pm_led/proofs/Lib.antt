@@ -5,4 +5,5 @@ mod LedWhole
 mod OutCounts
 mod PickedEdges
 mod Potential
+mod TurnedRoot
 mod WalkedLed

@@ -2,6 +2,7 @@
 ghost use Rattle.pm_led.specs.Heads.{VerticesHaveHeads};
 ghost use Rattle.pm_led.specs.LedLaws.{EachLedMapIsWalked, EachWalkedMapIsLed};
 ghost use Rattle.pm_led.specs.Orientation.{OneOrientation, WalkedMapHasOneOrientation};
+ghost use Rattle.pm_led.specs.TurnedEdge.{TurnedOrientationIsOne};
 
 /// A law: in a plane structure with a dart, where darts that do not pass a test lead from the root's vertex to all vertices,
 /// and darts that pass it from the root's face to all faces, the walk that the test makes meets every dart. The edges that
@@ -30,4 +31,10 @@ pub fn one_orientation()
 /// A law: the same where the walk meets every dart of a plane structure, whatever the numbers of its darts.
 pub fn walked_map_has_one_orientation()
     ensures { WalkedMapHasOneOrientation }
+{}
+
+/// A law: in a plane structure with a dart, two orientations with the same out-degrees and the same direction of the root's
+/// edge are one, where with that edge turned over the first leads both ways and the second leads to all faces.
+pub fn turned_orientation_is_one()
+    ensures { TurnedOrientationIsOne }
 {}
