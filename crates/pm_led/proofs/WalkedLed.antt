@@ -22,7 +22,7 @@ led_carried f a b passes other carries same some led holds root closed d l =
     }) (place_of f a.darts d) (place_of-stays f a.darts d carries.renumbers inside))
 
 -- the test of a place is that of its dart
-pub passes_back : (s : Structure) (out : ℕ → Bool) (w : IsWalked s out) → (k : ℕ) → k < w.walked.darts → w.passes k ≡ out (place_of w.rename s.darts k)
+passes_back : (s : Structure) (out : ℕ → Bool) (w : IsWalked s out) → (k : ℕ) → k < w.walked.darts → w.passes k ≡ out (place_of w.rename s.darts k)
 passes_back s out w k l =
     let inside : k < s.darts = omega (arith, w.carries.darts) in
     ap w.passes (sym (value-place_of w.rename s.darts k w.carries.renumbers inside)) ∙ w.same (place_of w.rename s.darts k) (place_of-stays w.rename s.darts k w.carries.renumbers inside)

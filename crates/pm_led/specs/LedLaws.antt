@@ -1,5 +1,5 @@
--- The walk meets every dart exactly where darts lead both ways, to all vertices and to all faces. For the orientation of a
--- triangulation that goes out of each vertex three times, the walk is the opening of Albenque and Poulalhon (2015).
+-- The walk meets every dart exactly where darts lead both ways, to all vertices and to all faces. It is the generic opening of
+-- plane maps [Albenque and Poulalhon 2015], told of any test of darts.
 use Rattle.std.specs.Prelude.{ℕ, ◌<◌, Bool, not}
 use Rattle.pm_perm.specs.Pairs.{IsNestedBelow}
 use Rattle.pm_map.specs.Structure.{Structure, IsStructure, dual}
