@@ -1,0 +1,9 @@
+mod CarriedOrientation
+mod HeadsFound
+mod LedWalked
+mod LedWhole
+mod OutCounts
+mod PickedEdges
+mod Potential
+mod TurnedRoot
+mod WalkedLed

@@ -1,0 +1,5 @@
+pub mod Heads
+pub mod LedLaws
+pub mod Orientation
+pub mod TurnedEdge
+pub mod Walked
