@@ -7,7 +7,8 @@ pub mod Meetings
 pub mod BitTrees
 pub mod CountReading
 pub mod NodeTurns
-mod OneReason
+pub mod OneReason
+pub mod SomeReason
 mod PlantScans
 pub mod Replants
 pub mod RunCorners

@@ -11,12 +11,13 @@ pub fn stem_trees_have_two_runs()
     ensures balanced { BalancedIsBelow }
 {}
 
-ghost use Rattle.pm_tri.specs.BalanceLaws.{HasOneReason};
+ghost use Rattle.pm_tri.specs.BalanceLaws.{HasOneReason, HasSomeReason};
 
-/// There is one answer to whether a stem tree is balanced, and why it isn't.
-#[tactic(auto, using(crate::proofs::OneReason::one_reason))]
+/// There is one answer to whether a stem tree is balanced, and why it isn't; and no stem tree is without one.
+#[tactic(auto, using(crate::proofs::OneReason::one_reason, crate::proofs::SomeReason::some_reason))]
 pub fn tri_imbalance_is_unique()
-    ensures { HasOneReason }
+    ensures one { HasOneReason }
+    ensures some { HasSomeReason }
 {}
 
 ghost use Rattle.pm_tri.specs.ClosingLaws.{ClosesAhead, ClosesAtSide, ClosesOnce, ClosesOrIsFree, ClosesWithin, IsInOneRun, IsInOtherRun, IsInPlantsRun, IsInSomeRun};
