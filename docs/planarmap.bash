@@ -7,7 +7,8 @@ _planarmap() {
         case ${COMP_WORDS[1]} in
         sample | unsample | draw | trip | census) mapfile -t COMPREPLY < <(compgen -W "$classes" -- "$2") ;;
         check) mapfile -t COMPREPLY < <(compgen -W "$classes tri" -- "$2") ;;
-        close | open) mapfile -t COMPREPLY < <(compgen -W eulerian -- "$2") ;;
+        close) mapfile -t COMPREPLY < <(compgen -W 'eulerian tri' -- "$2") ;;
+        open) mapfile -t COMPREPLY < <(compgen -W eulerian -- "$2") ;;
         esac
         ;;
     esac

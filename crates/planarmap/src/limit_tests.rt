@@ -1,7 +1,7 @@
 //! Files beyond the limits, and large ones.
 ghost use Rattle.std.specs.Prelude.{◌<◌, ◌^◌};
 
-use crate::tests::{Faults, NONE, run_on};
+use crate::tests::{Faults, run_on};
 use pm_cli::run;
 use pm_io::{Failed, MemSink, Source};
 use pm_text::put_number;
@@ -71,16 +71,41 @@ fn ring_with_tail(alloc: Global, edges: u32) -> Result<Vec<u8>, AllocError>
     Ok(text)
 }
 
-// The file of a word of so many leaves.
-fn leaves(alloc: Global, count: u32) -> Result<Vec<u8>, AllocError> {
+// The file of a word of so many letters, all alike.
+fn alike(alloc: Global, letter: u8, count: u32) -> Result<Vec<u8>, AllocError> {
     let mut text = Vec::new(alloc);
     text.extend_from_slice(b"tree ")?;
     for _place in 0..count {
-        text.push(b'l')?;
+        text.push(letter)?;
     }
     text.push(b'\n')?;
     Ok(text)
 }
+
+// The file of a balanced stem tree of two nodes more than so many, each the only child of the one above it.
+fn nested_nodes(alloc: Global, inner: u32) -> Result<Vec<u8>, AllocError> {
+    let mut text = Vec::new(alloc);
+    text.extend_from_slice(b"tree ")?;
+    for _node in 0..inner {
+        text.extend_from_slice(b"(s")?;
+    }
+    text.extend_from_slice(b"(ss)")?;
+    for _node in 0..inner {
+        text.extend_from_slice(b"s)")?;
+    }
+    text.extend_from_slice(b"s\n")?;
+    Ok(text)
+}
+
+// Large pieces, and room for large answers.
+const QUICK: Faults = Faults {
+    piece: 65_536,
+    read: 0,
+    out: 0,
+    part: 0,
+    err: 0,
+    room: 10_000_000,
+};
 
 // What the command refuses the file with.
 fn refused(
@@ -91,11 +116,7 @@ fn refused(
     status: u8,
     want: &str,
 ) -> Result<(), Fail> {
-    let quick = Faults {
-        piece: 65_536,
-        ..NONE
-    };
-    let run = run_on(rt, alloc, line, bytes, quick)?;
+    let run = run_on(rt, alloc, line, bytes, QUICK)?;
     assert_eq!(rt; run.status, status, "at {line}");
     assert_eq!(rt; run.err.bytes(), want.as_bytes());
     assert_eq!(rt; run.out.bytes(), b"".as_slice());
@@ -126,9 +147,30 @@ fn many_edges_apart(rt: HostRuntime) -> Result<(), Fail> {
 
 #[test]
 fn more_letters_than_taken(rt: HostRuntime) -> Result<(), Fail> {
-    let text = leaves(rt.alloc(), 8_388_608)?;
+    let text = alike(rt.alloc(), b'l', 8_388_608)?;
     let want = "planarmap: limit letters 8388608\n";
     refused(&rt, rt.alloc(), "close eulerian", &text, 7, want)
+}
+
+#[test]
+fn more_letters_than_a_stem_tree_has(rt: HostRuntime) -> Result<(), Fail> {
+    let text = alike(rt.alloc(), b's', 5_592_402)?;
+    let want = "planarmap: limit letters 5592402\n";
+    refused(&rt, rt.alloc(), "close tri", &text, 7, want)
+}
+
+// A tree with 100,000 nodes, and as many levels, gives 100,002 vertices, 300,000 edges and 200,000 faces.
+#[test]
+fn deep_stem_tree(rt: HostRuntime) -> Result<(), Fail> {
+    let text = nested_nodes(rt.alloc(), 99_998)?;
+    let closed = run_on(&rt, rt.alloc(), "close tri", &text, QUICK)?;
+    assert_eq!(rt; closed.status, 0);
+    let counted = run_on(&rt, rt.alloc(), "check tri", closed.out.bytes(), QUICK)?;
+    assert_eq!(rt;
+        counted.out.bytes(),
+        b"ok 100002 300000 200000\n".as_slice()
+    );
+    Ok(())
 }
 
 #[test]

@@ -70,7 +70,7 @@ closes||2|usage 0
 
 const CLOSE: &str = "\
 close||2|usage 1
-close tri||2|usage 1
+close quartic||2|usage 1
 close eulerian|tree lbl/|0|map 2 0/v 0 1 2 3/end/
 close eulerian|tree bll/|0|map 2 0/v 0 2 3 1/end/
 close eulerian|tree b(bll)l/|0|map 4 0/v 0 2 4 1/v 3 5 6 7/end/
@@ -83,6 +83,20 @@ close eulerian|tree llb/|12|tree matched 3
 close eulerian|tree ll/|12|tree degree 0
 close eulerian|tree b(ll)l/|12|tree degree 2
 close eulerian|tree lll/|12|tree buds 0
+close tri|tree s/|0|map 3 0/v 0 2/v 1 4/v 3 5/end/
+close tri|tree (ss)s/|0|map 6 0/v 0 2 4/v 1 6 8/v 3 9 10/v 5 11 7/end/
+close tri|tree (ss(ss))s/|0|map 9 0/v 0 2 4 6/v 1 8 10/v 3 11 12 14/v 5 15 16/v 7 17 13 9/end/
+close tri|tree (ss((ss)ss))s/|0|map 12 0/v 0 2 4 6/v 1 8 10 12/v 3 13 14 16/v 5 17 18 20/v 7 21 22 9/v 11 23 19 15/end/
+close tri x|tree s/|2|usage 2
+close tri|tree lbl/|3|text 1
+close tri|tree s)(/|3|text 1
+close tri|tree (ss)s|3|text 1
+close tri|tree s(ss)/tree s/|3|text 2
+close tri|tree (ss)s/tree s/|3|text 2
+close tri|tree ss/|12|tree stems 0
+close tri|tree ((s)ss)s/|12|tree stems 2
+close tri|tree ((ss)ss)s/|12|tree closes 2
+close tri|tree s(ss)/|12|tree follows 4
 ";
 
 const OPEN: &str = "\

@@ -3,11 +3,12 @@ use Rattle.std.proofs.Common.{◌≡◌, ℕ, ◌≤◌, List, length, refl, sub
 use Rattle.std.specs.Prelude.{Result, Ok}
 use Rattle.pm_io.specs.declared.TheConstants.{MAX_BYTES}
 use Rattle.pm_cli.specs.declared.class.Checked.TheVariants.{Sampled}
+use Rattle.pm_cli.specs.declared.close.Trees.TheVariants.{Blossoming}
 use Rattle.pm_cli.specs.declared.command.Command.TheVariants.{Reads, Makes}
 use Rattle.pm_cli.specs.declared.command.MapTask.{MapTask}
 use Rattle.pm_cli.specs.declared.command.MapTask.TheVariants.{Canon, Medial, Unmedial, Dual}
 use Rattle.pm_cli.specs.declared.command.Reader.{Reader}
-use Rattle.pm_cli.specs.declared.command.Reader.TheVariants.{CloseEulerian, OpenEulerian, OfMap, Check, Unsample, Sample}
+use Rattle.pm_cli.specs.declared.command.Reader.TheVariants.{Close, OpenEulerian, OfMap, Check, Unsample, Sample}
 use Rattle.pm_cli.specs.declared.refusal.Refusal.{Refusal}
 use Rattle.pm_cli.specs.Answer.{Answers, no_command, too_long, of_file, of_size, AnswersReader}
 use Rattle.pm_cli.specs.Classes.{class_of}
@@ -40,16 +41,16 @@ to_words reader is bytes text within h = of_file reader (record { is_command = i
 
 pub opened_by_words : ClosedTreesOpen AnswersByWords
 opened_by_words bytes text x =
-    let closes = by_words CloseEulerian tt bytes text x in
-    to_words OpenEulerian tt text bytes (printed_within text (printed CloseEulerian bytes text tt closes)) (opened_again bytes text closes)
+    let closes = by_words (Close Blossoming) tt bytes text x in
+    to_words OpenEulerian tt text bytes (printed_within text (printed (Close Blossoming) bytes text tt closes)) (opened_again bytes text closes)
 
 pub closed_by_words : OpenedMapsClose AnswersByWords
 closed_by_words bytes text canonical x y =
     let opens = by_words OpenEulerian tt bytes text x in
-    to_words CloseEulerian tt text canonical (opened_within bytes text opens) (closed_again bytes text canonical opens (by_words (OfMap Canon) tt bytes canonical y))
+    to_words (Close Blossoming) tt text canonical (opened_within bytes text opens) (closed_again bytes text canonical opens (by_words (OfMap Canon) tt bytes canonical y))
 
 reader_of : (reader : Reader) → PrintsMap reader → IsReader reader
-reader_of CloseEulerian is = tt
+reader_of (Close trees) is = tt
 reader_of OpenEulerian is = tt
 reader_of (OfMap task) is = tt
 reader_of (Check class) is = tt

@@ -6,19 +6,23 @@ use Rattle.std.proofs.lemmas.Fmt.{decimal_injective}
 use Rattle.pm_cli.specs.declared.class.Checked.{Checked}
 use Rattle.pm_cli.specs.declared.class.Class.{Class}
 use Rattle.pm_cli.specs.declared.class.Size.{Size}
+use Rattle.pm_cli.specs.declared.close.Trees.{Trees}
+use Rattle.pm_cli.specs.declared.close.Trees.TheVariants.{Blossoming}
 use Rattle.pm_cli.specs.declared.command.Command.{Command}
 use Rattle.pm_cli.specs.declared.command.Command.TheVariants.{Reads, Makes}
 use Rattle.pm_cli.specs.declared.command.MapTask.{MapTask}
-use Rattle.pm_cli.specs.declared.command.Reader.TheVariants.{CloseEulerian, OpenEulerian, OfMap, Check, Unsample, Sample}
+use Rattle.pm_cli.specs.declared.command.Reader.TheVariants.{Close, OpenEulerian, OfMap, Check, Unsample, Sample}
 use Rattle.pm_cli.specs.declared.command.Maker.TheVariants.{Draw, Trip, Census}
 use Rattle.pm_cli.specs.declared.command.Verb.{Verb}
 use Rattle.pm_cli.specs.declared.command.Verb.TheVariants as verb
 use Rattle.pm_cli.specs.Classes.{class_of, class_word, checked_word, size_word}
+use Rattle.pm_cli.specs.TreeKinds.{trees_word}
 use Rattle.pm_cli.specs.Commands.{verb_word, AreDrawNumbers, verb_of, behind, spelling, IsCommand, Spells, Begins, IsNoCommand}
 use Rattle.pm_cli.specs.steps.Words.{StopsAt, AreBehind, IsBehind}
 use Rattle.pm_cli.proofs.ClassLaws.{one_class, one_checked, one_size}
 use Rattle.pm_cli.proofs.StoppingWords.{first_words, later_words}
 use Rattle.pm_cli.proofs.TaskLaws.{one_verb}
+use Rattle.pm_cli.proofs.TreeLines.{one_trees}
 
 -- equal prefixes have equal shorter prefixes
 prefix : (k j : ℕ) (xs ys : List (List ℕ)) → k ≤ j → take j xs ≡ take j ys → take k xs ≡ take k ys
@@ -31,7 +35,7 @@ prefix k j xs ys le e = sym (shorter k j xs le) ∙ ap (take k) e ∙ shorter k 
 
 -- a command stands behind its verb
 stands_behind : (command : Command) → IsCommand command → AreBehind (verb_of command) (behind command)
-stands_behind (Reads CloseEulerian) is = record { word = codes "eulerian"; is = refl; alone = refl }
+stands_behind (Reads (Close trees)) is = record { word = trees_word trees; is = (trees, refl); alone = refl }
 stands_behind (Reads (OfMap task)) is = refl
 stands_behind (Reads OpenEulerian) is = record { word = codes "eulerian"; is = refl; alone = refl }
 stands_behind (Reads (Check class)) is = record { word = checked_word class; is = (class, refl); alone = refl }
@@ -45,7 +49,8 @@ stands_behind (Makes Census size) is = record { size = size; admissible = is.1; 
 
 -- and what stands behind a verb is some command
 some_command : (v : Verb) (words : List (List ℕ)) → AreBehind v words → (command : Command) × IsBehind v words command
-some_command verb.Close words is = (Reads CloseEulerian, record { is_command = tt; is_verb = refl; same = is.alone ∙ ap (λ (w : List ℕ). w ∷ []) is.is })
+some_command verb.Close words is =
+    let trees = is.is in (Reads (Close trees.0), record { is_command = tt; is_verb = refl; same = is.alone ∙ ap (λ (w : List ℕ). w ∷ []) trees.1 })
 some_command verb.Open words is = (Reads OpenEulerian, record { is_command = tt; is_verb = refl; same = is.alone ∙ ap (λ (w : List ℕ). w ∷ []) is.is })
 some_command (verb.OfMap task) words is = (Reads (OfMap task), record { is_command = tt; is_verb = refl; same = is })
 some_command verb.Check words is =
@@ -84,7 +89,7 @@ stops_at words k begins none = record {
 -- no verb stands first
 pub no_verb : (words : List (List ℕ)) → ((v : Verb) → take 1 words ≡ verb_word v ∷ [] → ⊥) → IsNoCommand words 0
 no_verb words none =
-    stops_at words 0 (record { command = Reads CloseEulerian; is_command = tt; within = omega arith; same = refl }) (λ command is e. none (verb_of command) e)
+    stops_at words 0 (record { command = Reads (Close Blossoming); is_command = tt; within = omega arith; same = refl }) (λ command is e. none (verb_of command) e)
 
 -- a verb stands first, and the words behind it are no such words
 pub stops_behind : (words : List (List ℕ)) (v : Verb) (rest : List (List ℕ)) (k : ℕ) → words ≡ verb_word v ∷ rest → StopsAt (AreBehind v) rest k → IsNoCommand words (1 + k)
@@ -110,7 +115,7 @@ spells_behind words v rest command e is =
 
 -- the commands of a verb
 data IsOfVerb : Verb → Command → Type 0 where
-  closes : IsOfVerb verb.Close (Reads CloseEulerian)
+  closes : (trees : Trees) → IsOfVerb verb.Close (Reads (Close trees))
   opens : IsOfVerb verb.Open (Reads OpenEulerian)
   prints : (task : MapTask) → IsOfVerb (verb.OfMap task) (Reads (OfMap task))
   checks : (class : Checked) → IsOfVerb verb.Check (Reads (Check class))
@@ -121,7 +126,7 @@ data IsOfVerb : Verb → Command → Type 0 where
   counts : (size : Size) → IsOfVerb verb.Census (Makes Census size)
 
 is_of_verb : (command : Command) → IsOfVerb (verb_of command) command
-is_of_verb (Reads CloseEulerian) = closes
+is_of_verb (Reads (Close trees)) = closes trees
 is_of_verb (Reads (OfMap task)) = prints task
 is_of_verb (Reads OpenEulerian) = opens
 is_of_verb (Reads (Check class)) = checks class
@@ -141,7 +146,7 @@ one_count : {s c t d : ℕ} → AreDrawNumbers s c → AreDrawNumbers t d → de
 one_count {s} {c} {t} {d} x y e = let p = x.few in let q = y.few in decimal_injective c d (omega arith) (omega arith) e
 
 one_of_verb : (v : Verb) (a b : Command) → IsOfVerb v a → IsOfVerb v b → IsCommand a → IsCommand b → behind a ≡ behind b → a ≡ b
-one_of_verb _ _ _ closes closes x y e = refl
+one_of_verb _ _ _ (closes a) (closes b) x y e = ap (λ (trees : Trees). Reads (Close trees)) (one_trees a b (first_words e))
 one_of_verb _ _ _ opens opens x y e = refl
 one_of_verb _ _ _ (prints task) (prints _) x y e = refl
 one_of_verb _ _ _ (checks a) (checks b) x y e = ap (λ (class : Checked). Reads (Check class)) (one_checked a b (first_words e))

@@ -1,3 +1,4 @@
+pub mod BlossomingLaws
 pub mod ByWords
 pub mod CensusRecords
 pub mod ChoicesLines
@@ -5,6 +6,7 @@ pub mod ClassLaws
 pub mod CommandWords
 pub mod EndingLemmas
 pub mod FirstLines
+pub mod FirstPlaces
 pub mod HeadlineFiles
 pub mod HeadlineLemmas
 pub mod ImagesAgain
@@ -27,8 +29,10 @@ pub mod SomeClosing
 pub mod SomeSampling
 pub mod SomeUnsampling
 pub mod Sizes
+pub mod StemLaws
 pub mod StoppingWords
 pub mod TaskLaws
+pub mod TreeKindLaws
 pub mod TreeLines
 pub mod UnnamedTexts
 pub mod WholeDrawings

@@ -7,22 +7,22 @@ use Rattle.pm_map.specs.declared.refusal.MapRefusal.{MapRefusal}
 use Rattle.pm_map.specs.declared.refusal.MapRefusal.TheVariants as made
 use Rattle.pm_class.specs.declared.sample.UnsampleRefusal.{UnsampleRefusal}
 use Rattle.pm_class.specs.declared.sample.UnsampleRefusal.TheVariants as pair
-use Rattle.pm_trees.specs.declared.tree.TreeRefusal.{TreeRefusal}
-use Rattle.pm_trees.specs.declared.tree.TreeRefusal.TheVariants as word
+use Rattle.pm_cli.specs.declared.close.Trees.{Trees}
 use Rattle.pm_cli.specs.declared.command.Reader.{Reader}
-use Rattle.pm_cli.specs.declared.command.Reader.TheVariants.{CloseEulerian, OpenEulerian, OfMap, Check, Unsample, Sample}
+use Rattle.pm_cli.specs.declared.command.Reader.TheVariants.{Close, OpenEulerian, OfMap, Check, Unsample, Sample}
 use Rattle.pm_cli.specs.declared.refusal.Refusal.{Refusal}
 use Rattle.pm_cli.specs.declared.refusal.Stop.{Stop}
 use Rattle.pm_cli.specs.declared.refusal.Stop.TheVariants.{Refused, Read, Write, Memory}
 use Rattle.pm_cli.specs.Answer.{AnswersReader}
 use Rattle.pm_cli.specs.Classes.{InClass, class_at, counts_of, AtSize, sized}
-use Rattle.pm_cli.specs.Closing.{ClosesEulerian, closed, no_tree, matched}
+use Rattle.pm_cli.specs.Closing.{ClosesFile, closed, broken as broken_line, refused as refused_word}
 use Rattle.pm_cli.specs.Lines.{status_of_refusal, status_of_stop}
 use Rattle.pm_cli.specs.MapAnswers.{rule_of_lines, rule_of_class, RefusesFile, broken, makes_none, MapRelation, AnswersMap, told, no_map, breaks, task_relation, opening}
 use Rattle.pm_cli.specs.Sampling.{Samples, sampled, no_list, not_valid}
-use Rattle.pm_cli.specs.TreeFile.{rule_of_word, RefusesTreeFile, broken as broken_line, no_tree as no_blossoming}
+use Rattle.pm_cli.specs.TreeKinds.{kind_of}
 use Rattle.pm_cli.specs.Unsampling.{rule_of_pair, Unsamples, unsampled, no_map as no_pair, refused}
 use Rattle.pm_cli.specs.steps.Answering.{IsAnswerBy}
+use Rattle.pm_cli.proofs.TreeLines.{kind_laws}
 
 -- the status of a rule, and of none
 abbrev status_of_rule : Option Refusal → ℕ
@@ -54,20 +54,9 @@ no_pair_rule pair.Memory e = cc
 no_pair_rule (pair.Class why) e = no_class_rule why e
 no_pair_rule (pair.List refusal) e = cc
 
-no_word_rule : (why : TreeRefusal) → status_of_rule (rule_of_word why) ≡ 2 → ⊥
-no_word_rule word.Memory e = cc
-no_word_rule (word.Text place) e = cc
-no_word_rule (word.TooMany letters) e = cc
-no_word_rule (word.Degree place) e = cc
-no_word_rule (word.Buds place) e = cc
-
 no_file_rule : (form : List ℕ → Type 0) (makes_no_map : MapRefusal → Type 0) (bytes : List ℕ) (refusal : Refusal) → RefusesFile form makes_no_map bytes refusal → status_of_refusal refusal ≡ 2 → ⊥
 no_file_rule form makes_no_map bytes _ (broken line h) e = cc
 no_file_rule form makes_no_map bytes _ (makes_none refusal why rule h) e = ruled (rule_of_lines why) refusal (no_line_rule why) rule e
-
-no_tree_rule : (bytes : List ℕ) (refusal : Refusal) → RefusesTreeFile bytes refusal → status_of_refusal refusal ≡ 2 → ⊥
-no_tree_rule bytes _ (broken_line line h) e = cc
-no_tree_rule bytes _ (no_blossoming refusal why rule h) e = ruled (rule_of_word why) refusal (no_word_rule why) rule e
 
 abbrev status_of_answer : Result (List ℕ) Refusal → ℕ
 status_of_answer (Ok text) = 0
@@ -88,13 +77,13 @@ by_choices at bytes _ (sampled text h) e = cc
 by_choices at bytes _ (no_list line h) e = cc
 by_choices at bytes _ (not_valid refusal h) e = cc
 
-by_tree : (bytes : List ℕ) (answer : Result (List ℕ) Refusal) → ClosesEulerian bytes answer → status_of_answer answer ≡ 2 → ⊥
-by_tree bytes _ (closed text h) e = cc
-by_tree bytes _ (no_tree refusal h) e = no_tree_rule bytes refusal h e
-by_tree bytes _ (matched bud h) e = cc
+by_tree : (trees : Trees) (bytes : List ℕ) (answer : Result (List ℕ) Refusal) → ClosesFile (kind_of trees) bytes answer → status_of_answer answer ≡ 2 → ⊥
+by_tree trees bytes _ (closed text h) e = cc
+by_tree trees bytes _ (broken_line line h) e = cc
+by_tree trees bytes _ (refused_word refusal h) e = let laws = kind_laws trees in laws.no_usage h.word refusal h.holds e
 
 by_reader : (reader : Reader) (bytes : List ℕ) (answer : Result (List ℕ) Refusal) → AnswersReader reader bytes answer → status_of_answer answer ≡ 2 → ⊥
-by_reader CloseEulerian bytes answer h e = by_tree bytes answer h e
+by_reader (Close trees) bytes answer h e = by_tree trees bytes answer h e
 by_reader OpenEulerian bytes answer h e = by_map opening bytes answer h e
 by_reader (OfMap task) bytes answer h e = by_map (task_relation task) bytes answer h e
 by_reader (Check class) bytes answer h e = by_map (counts_of class) bytes answer h e

@@ -8,7 +8,7 @@ use Rattle.pm_cli.specs.declared.command.Command.TheVariants.{Reads, Makes}
 use Rattle.pm_cli.specs.declared.command.Maker.{Maker}
 use Rattle.pm_cli.specs.declared.command.Maker.TheVariants.{Draw, Trip, Census}
 use Rattle.pm_cli.specs.declared.command.Reader.{Reader}
-use Rattle.pm_cli.specs.declared.command.Reader.TheVariants.{CloseEulerian, OpenEulerian, OfMap, Check, Unsample, Sample}
+use Rattle.pm_cli.specs.declared.command.Reader.TheVariants.{Close, OpenEulerian, OfMap, Check, Unsample, Sample}
 use Rattle.pm_cli.specs.declared.refusal.Refusal.{Refusal}
 use Rattle.pm_cli.specs.declared.refusal.Refusal.TheVariants.{Usage}
 use Rattle.pm_cli.specs.Answer.{AnswersReader, AnswersSize, no_command, too_long, of_file, of_size}
@@ -16,12 +16,14 @@ use Rattle.pm_cli.specs.Classes.{sampler_of, AtSize, sized, IsSize, InClass, cla
 use Rattle.pm_cli.specs.Commands.{IsReader}
 use Rattle.pm_cli.specs.Laws.{HasOneAnswer}
 use Rattle.pm_cli.specs.MapAnswers.{task_relation, opening}
+use Rattle.pm_cli.specs.TreeKinds.{kind_of}
 use Rattle.pm_cli.proofs.CensusRecords.{counts_once}
 use Rattle.pm_cli.proofs.ClassLaws.{AreSamplers, sized_laws, count_laws}
 use Rattle.pm_cli.proofs.CommandWords.{one_command}
 use Rattle.pm_cli.proofs.OneClosing.{closes_once}
 use Rattle.pm_cli.proofs.MapRelations.{map_answers_once}
 use Rattle.pm_cli.proofs.TaskLaws.{task_laws, opening_laws}
+use Rattle.pm_cli.proofs.TreeLines.{kind_laws}
 use Rattle.pm_cli.proofs.OneSampling.{samples_once, draws_once, trips_once}
 use Rattle.pm_cli.proofs.OneUnsampling.{HasOneUnsampling, one_unsampling, unsamples_once}
 
@@ -40,7 +42,7 @@ module _ (laws : AreSamplers) where
 
   -- a command has one answer to a file
   reads_once : (reader : Reader) → IsReader reader → (bytes : List ℕ) (a b : Result (List ℕ) Refusal) → AnswersReader reader bytes a → AnswersReader reader bytes b → a ≡ b
-  reads_once CloseEulerian is bytes a b x y = closes_once bytes a b x y
+  reads_once (Close trees) is bytes a b x y = closes_once (kind_of trees) (kind_laws trees) bytes a b x y
   reads_once OpenEulerian is bytes a b x y = map_answers_once opening opening_laws bytes a b x y
   reads_once (OfMap task) is bytes a b x y = map_answers_once (task_relation task) (task_laws task) bytes a b x y
   reads_once (Check class) is bytes a b x y = map_answers_once (counts_of class) (count_laws laws class) bytes a b x y

@@ -14,9 +14,10 @@ use Rattle.pm_close.proofs.PlaneMap.{rooted_closure}
 use Rattle.pm_cli.specs.declared.refusal.Refusal.{Refusal}
 use Rattle.pm_cli.specs.Answer.{AnswersReader}
 use Rattle.pm_cli.specs.Laws.{ClosedTreesOpen, OpenedMapsClose}
-use Rattle.pm_cli.specs.Closing.{ClosesTo, ClosesEulerian, closed, no_tree, matched}
+use Rattle.pm_cli.specs.Closing.{ClosesTo, ClosesFile, closed, broken, refused}
 use Rattle.pm_cli.specs.MapAnswers.{HasMap, MapRelation, AnswersMap, told, no_map, breaks, HasCanonicalText, HasOpenText, task_relation, opening}
 use Rattle.pm_cli.specs.TreeFile.{HasWord}
+use Rattle.pm_cli.specs.TreeKinds.{TreeKind, blossoming_trees}
 use Rattle.pm_cli.specs.declared.command.MapTask.TheVariants.{Canon}
 use Rattle.pm_cli.specs.declared.command.Reader.TheVariants.{OpenEulerian, OfMap}
 use Rattle.pm_cli.proofs.MapRelations.{one_map}
@@ -38,32 +39,34 @@ canon_map bytes text canonizes =
     let of = x.holds in
     record { residue = x.residue; map = x.map; answered = x.answered; holds = subst (λ (m : RotationSystem). HasCanonicalText m text) of.is_image of.is_text }
 
-pub closed_word : (bytes text : List ℕ) (answer : Result (List ℕ) Refusal) → ClosesEulerian bytes answer → answer ≡ Ok text → HasWord bytes (ClosesTo text)
-closed_word bytes text _ (closed other h) e = subst (λ (t : List ℕ). HasWord bytes (ClosesTo t)) (same_text e) h
-closed_word bytes text _ (no_tree refusal h) e = cc
-closed_word bytes text _ (matched bud h) e = cc
+pub closed_word : (kind : TreeKind) (bytes text : List ℕ) (answer : Result (List ℕ) Refusal) → ClosesFile kind bytes answer → answer ≡ Ok text → HasWord kind bytes (ClosesTo kind text)
+closed_word kind bytes text _ (closed other h) e = subst (λ (t : List ℕ). HasWord kind bytes (ClosesTo kind t)) (same_text e) h
+closed_word kind bytes text _ (broken line h) e = cc
+closed_word kind bytes text _ (refused refusal h) e = cc
 
 -- the text of a closed tree is a map file, and its map opens to the tree
 pub opened_again : ClosedTreesOpen AnswersReader
 opened_again bytes text is =
-    let closes = closed_word bytes text (Ok text) is refl in
+    let closes = closed_word blossoming_trees bytes text (Ok text) is refl in
     let closing = closes.holds in
-    let rooted = rooted_closure closes.word closing.closed closing.blossoming closing.balanced closing.is_closed in
-    let canonical = canonical_map_is_rooted closing.closed closing.canonical rooted closing.is_canonical in
+    let tree = closing.is_closed in
+    let has = closing.has_text in
+    let rooted = rooted_closure closes.word closing.closed tree.blossoming tree.balanced tree.is_closed in
+    let canonical = canonical_map_is_rooted closing.closed has.canonical rooted has.is_canonical in
     told bytes (record {
       residue = None;
-      map = closing.canonical;
+      map = has.canonical;
       answered =
-          subst (λ (file : List ℕ). AnswersFile file MAX_EDGES None (Ok closing.canonical)) (append-nil text)
-          (map_file_is_read_again closing.canonical MAX_EDGES text [] None canonical canonical.few closing.is_text (record { fit = tt; spelled = refl }));
+          subst (λ (file : List ℕ). AnswersFile file MAX_EDGES None (Ok has.canonical)) (append-nil text)
+          (map_file_is_read_again has.canonical MAX_EDGES text [] None canonical canonical.few has.is_text (record { fit = tt; spelled = refl }));
       holds = record {
         word = closes.word;
         opened = record {
-          blossoming = closing.blossoming;
-          balanced = closing.balanced;
+          blossoming = tree.blossoming;
+          balanced = tree.balanced;
           closure = closing.closed;
-          is_closure = closing.is_closed;
-          same = same_symmetric (structure_of closing.closed) (structure_of closing.canonical) rooted.structure closing.is_canonical.is_same;
+          is_closure = tree.is_closed;
+          same = same_symmetric (structure_of closing.closed) (structure_of has.canonical) rooted.structure has.is_canonical.is_same;
         };
         is_text = closes.spelled;
       };
@@ -84,16 +87,16 @@ closed_again bytes text canonical opens canonizes =
       word = tree.word;
       spelled = tree.is_text;
       holds = record {
-        blossoming = is.blossoming;
-        balanced = is.balanced;
         closed = is.closure;
-        is_closed = is.is_closure;
-        canonical = has.canonical;
-        is_canonical = record {
-          is_canonical = has.is_canonical.is_canonical;
-          is_same = same_transitive (structure_of is.closure) (structure_of map) (structure_of has.canonical) back has.is_canonical.is_same;
+        is_closed = record { blossoming = is.blossoming; balanced = is.balanced; is_closed = is.is_closure };
+        has_text = record {
+          canonical = has.canonical;
+          is_canonical = record {
+            is_canonical = has.is_canonical.is_canonical;
+            is_same = same_transitive (structure_of is.closure) (structure_of map) (structure_of has.canonical) back has.is_canonical.is_same;
+          };
+          is_text = has.is_text;
         };
-        is_text = has.is_text;
       };
     })
 

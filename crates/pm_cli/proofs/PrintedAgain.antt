@@ -11,15 +11,16 @@ use Rattle.pm_mapfile.specs.MapFile.{lines_text}
 use Rattle.pm_mapfile.specs.MapText.{IsMapText}
 use Rattle.pm_mapfile.proofs.ReadAgainLemmas.{map_file_is_read_again}
 use Rattle.pm_mapfile.proofs.TextLengths.{lines_few}
-use Rattle.pm_close.proofs.PlaneMap.{rooted_closure}
 use Rattle.pm_cli.specs.declared.command.MapTask.TheVariants.{Canon}
 use Rattle.pm_cli.specs.declared.command.Reader.{Reader}
-use Rattle.pm_cli.specs.declared.command.Reader.TheVariants.{CloseEulerian, OpenEulerian, OfMap, Check, Unsample, Sample}
+use Rattle.pm_cli.specs.declared.command.Reader.TheVariants.{Close, OpenEulerian, OfMap, Check, Unsample, Sample}
 use Rattle.pm_cli.specs.Answer.{AnswersReader}
 use Rattle.pm_cli.specs.Laws.{PrintsMap, PrintedMapsStay}
 use Rattle.pm_cli.specs.MapAnswers.{told, task_relation}
+use Rattle.pm_cli.specs.TreeKinds.{kind_of}
 use Rattle.pm_cli.proofs.OpenedAgain.{told_map, closed_word}
 use Rattle.pm_cli.proofs.TaskLaws.{IsPrinted, printed_text, printed_image}
+use Rattle.pm_cli.proofs.TreeLines.{kind_laws}
 
 -- the text of a map within a limit is a map file of it
 pub read_back : (m : RotationSystem) (limit : ℕ) (text : List ℕ) → IsRootedMap m → length m.sigma ≤ 2 * limit → IsMapText m text → AnswersFile text limit None (Ok m)
@@ -53,11 +54,11 @@ canon_stays text printed = told text (record {
 
 -- what these commands answer is the text of a canonical map
 pub printed : (reader : Reader) (bytes text : List ℕ) → PrintsMap reader → AnswersReader reader bytes (Ok text) → IsPrinted text
-printed CloseEulerian bytes text is h =
-    let closes = closed_word bytes text (Ok text) h refl in
+printed (Close trees) bytes text is h =
+    let closes = closed_word (kind_of trees) bytes text (Ok text) h refl in
     let closing = closes.holds in
-    printed_text closing.closed text (rooted_closure closes.word closing.closed closing.blossoming closing.balanced closing.is_closed)
-    (record { canonical = closing.canonical; is_canonical = closing.is_canonical; is_text = closing.is_text })
+    let laws = kind_laws trees in
+    printed_text closing.closed text (laws.rooted closes.word closing.closed closing.is_closed) closing.has_text
 printed OpenEulerian bytes text is h = absurd is
 printed (OfMap task) bytes text is h = let x = told_map (task_relation task) bytes text (Ok text) h refl in printed_image task is x.map text x.holds
 printed (Check class) bytes text is h = absurd is

@@ -5,12 +5,13 @@ use Rattle.std.proofs.lemmas.Bool.{cases_lt}
 use Rattle.pm_io.specs.declared.TheConstants.{MAX_BYTES}
 use Rattle.pm_perm.proofs.LeastCases.{some_greatest}
 use Rattle.pm_cli.specs.declared.class.Size.{Size}
+use Rattle.pm_cli.specs.declared.close.Trees.TheVariants.{Blossoming}
 use Rattle.pm_cli.specs.declared.command.Command.{Command}
 use Rattle.pm_cli.specs.declared.command.Command.TheVariants.{Reads, Makes}
 use Rattle.pm_cli.specs.declared.command.Maker.{Maker}
 use Rattle.pm_cli.specs.declared.command.Maker.TheVariants.{Draw, Trip, Census}
 use Rattle.pm_cli.specs.declared.command.Reader.{Reader}
-use Rattle.pm_cli.specs.declared.command.Reader.TheVariants.{CloseEulerian, OpenEulerian, OfMap, Check, Unsample, Sample}
+use Rattle.pm_cli.specs.declared.command.Reader.TheVariants.{Close, OpenEulerian, OfMap, Check, Unsample, Sample}
 use Rattle.pm_cli.specs.declared.refusal.Limit.TheVariants.{Bytes}
 use Rattle.pm_cli.specs.declared.refusal.Refusal.TheVariants.{Usage, Limited}
 use Rattle.pm_cli.specs.Answer.{Answers, AnswersReader, AnswersSize, no_command, too_long, of_file, of_size}
@@ -18,6 +19,7 @@ use Rattle.pm_cli.specs.Classes.{sampler_of, sized, IsSize, counts_of}
 use Rattle.pm_cli.specs.Commands.{IsReader, Spells, Begins, IsNoCommand}
 use Rattle.pm_cli.specs.Laws.{IsAnswered, HasSomeAnswer}
 use Rattle.pm_cli.specs.MapAnswers.{task_relation, opening}
+use Rattle.pm_cli.specs.TreeKinds.{kind_of}
 use Rattle.pm_cli.proofs.CensusRecords.{counts_answered}
 use Rattle.pm_cli.proofs.ClassLaws.{AreSamplers, sized_laws, most, count_laws}
 use Rattle.pm_cli.proofs.SomeClosing.{closes_answered}
@@ -25,16 +27,17 @@ use Rattle.pm_cli.proofs.MapRelations.{map_answered}
 use Rattle.pm_cli.proofs.SomeSampling.{samples_answered, draws_answered, trips_answered}
 use Rattle.pm_cli.proofs.SomeUnsampling.{unsamples_answered}
 use Rattle.pm_cli.proofs.TaskLaws.{task_laws, opening_laws}
+use Rattle.pm_cli.proofs.TreeLines.{kind_laws}
 
 -- words are those of a command, or of none, where a greatest number of them begin one
 spelled_or_not : (words : List (List ℕ)) → ((command : Command) → Spells words command → ⊥) → ((k : ℕ) → IsNoCommand words k → ⊥) → ⊥
 spelled_or_not words spelled none =
-    some_greatest (Begins words) (length words) (record { command = Reads CloseEulerian; is_command = tt; within = omega arith; same = refl })
+    some_greatest (Begins words) (length words) (record { command = Reads (Close Blossoming); is_command = tt; within = omega arith; same = refl })
     (λ k begins top. none k (record { none = spelled; begins = begins; greatest = λ j other. top j other.within other }))
 
 module _ (laws : AreSamplers) where
   reads_answered : (reader : Reader) → IsReader reader → (bytes : List ℕ) → IsAnswered (AnswersReader reader bytes)
-  reads_answered CloseEulerian is bytes = closes_answered bytes
+  reads_answered (Close trees) is bytes = closes_answered (kind_of trees) (kind_laws trees) bytes
   reads_answered OpenEulerian is bytes = map_answered opening opening_laws bytes
   reads_answered (OfMap task) is bytes = map_answered (task_relation task) (task_laws task) bytes
   reads_answered (Check c) is bytes = map_answered (counts_of c) (count_laws laws c) bytes

@@ -16,7 +16,7 @@ use Rattle.pm_map.specs.Structure.{Same}
 use Rattle.pm_map.proofs.DegreeRules.{least_other_is_unique}
 use Rattle.pm_map.proofs.DualMaps.{dual_is_rooted}
 use Rattle.pm_map.proofs.SameMaps.{same_as_itself}
-use Rattle.pm_map.proofs.UniqueCanonical.{canonical_map_is_rooted, canonical_map_is_unique, canonical_maps_tell}
+use Rattle.pm_map.proofs.UniqueCanonical.{canonical_map_is_rooted, canonical_map_is_unique}
 use Rattle.pm_canon.proofs.ExistenceLemmas.{canonical_map_exists}
 use Rattle.pm_medial.specs.Medial.{IsMedialMap, IsUnmedialOf}
 use Rattle.pm_medial.proofs.OneMedial.{one_medial}
@@ -44,7 +44,7 @@ use Rattle.pm_cli.specs.Commands.{verb_word}
 use Rattle.pm_cli.specs.MapAnswers.{MapRelation, HasCanonicalText, HasTextOf, HasNoDart, empty, HasOtherDegrees, no_dart, other_degree, task_relation, PrintsImage, counts_line, counting, HasOpenText, opening, layers_lines}
 use Rattle.pm_cli.specs.TreeFile.{IsTreeLine}
 use Rattle.pm_cli.proofs.MapRelations.{same_why, value_or_why, IsMapRelation}
-use Rattle.pm_cli.proofs.OneText.{one_text}
+use Rattle.pm_cli.proofs.OneText.{one_canonical_text, one_text}
 use Rattle.pm_cli.proofs.WordTables.{looked_up, one_value}
 
 -- the words of the verbs
@@ -73,7 +73,7 @@ pub one_verb : (a b : Verb) → verb_word a ≡ verb_word b → a ≡ b
 one_verb = one_value verbs verb_word verb_found
 
 -- a rooted map has a canonical text
-canonical_text : (m : RotationSystem) → IsRootedMap m → (text : List ℕ) × HasCanonicalText m text
+pub canonical_text : (m : RotationSystem) → IsRootedMap m → (text : List ℕ) × HasCanonicalText m text
 canonical_text m rooted =
     let canonical = canonical_map_exists m rooted in
     let text = canonical_has_text canonical.0 canonical.1.is_canonical in
@@ -100,13 +100,10 @@ printing_laws image refuses limit few is = record {
 } where
   one_image_text : (m : RotationSystem) (a b : List ℕ) → IsRootedMap m → HasTextOf image m a → HasTextOf image m b → a ≡ b
   one_image_text m a b rooted x y =
-      let same : x.is_text.canonical ≡ y.is_text.canonical =
-      (canonical_maps_tell x.other y.other x.is_text.canonical y.is_text.canonical x.rooted y.rooted x.is_text.is_canonical y.is_text.is_canonical).0
-      (is.alike m x.other y.other rooted x.rooted y.rooted x.is_image y.is_image) in
-      one_text y.is_text.canonical a b (subst (λ (k : RotationSystem). IsMapText k a) same x.is_text.is_text) y.is_text.is_text
+      one_canonical_text x.other y.other a b x.rooted y.rooted (is.alike m x.other y.other rooted x.rooted y.rooted x.is_image y.is_image) x.is_text y.is_text
 
 -- equal maps are the same
-same_map : (one other : RotationSystem) → one ≡ other → Same (structure_of one) (structure_of other)
+pub same_map : (one other : RotationSystem) → one ≡ other → Same (structure_of one) (structure_of other)
 same_map one other e = subst (λ (k : RotationSystem). Same (structure_of one) (structure_of k)) e (same_as_itself (structure_of one))
 
 -- a map has a dart and vertices of such degrees, or one reason why not

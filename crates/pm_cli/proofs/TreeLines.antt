@@ -1,65 +1,43 @@
--- Tree files are files of one line, and spell one word.
-use Rattle.std.proofs.Common.{◌≡◌, ◌≢◌, ℕ, zero, suc, ◌≤◌, Bool, true, false, List, [], get_or, take, refl, sym, subst, arith}
-use Rattle.std.specs.Prelude.{codes, IsTrue, if◌then◌else◌, Some, Err}
-use Rattle.std.proofs.lemmas.List.Elements.{All-get_or, All-from_get_or, All-nil, All-cons}
-use Rattle.pm_text.specs.Broken.{newline}
-use Rattle.pm_text.proofs.LineLemmas.{HasNoNewline-nil, HasNoNewline-cons}
-use Rattle.pm_trees.specs.declared.letters.TheConstants.{LEAF}
-use Rattle.pm_brackets.specs.declared.letters.TheConstants.{OPEN, CLOSE}
-use Rattle.pm_trees.specs.declared.tree.TreeRefusal.{TreeRefusal}
-use Rattle.pm_brackets.specs.First.{IsFirst}
-use Rattle.pm_trees.specs.Reading.{IsAnswer}
-use Rattle.pm_trees.specs.Word.{IsInOrder, IsFault, is_letter, contour}
-use Rattle.pm_brackets.specs.Word.{count}
-use Rattle.pm_trees.proofs.FourLetters.{no_fault}
+-- A word that breaks a rule, in a tree file.
+use Rattle.std.proofs.Common.{◌≡◌, ℕ, Bool, true, false, List, [], ◌∷◌, refl, sym, subst}
+use Rattle.std.specs.Prelude.{codes, if◌then◌else◌, Some, Err}
 use Rattle.pm_cli.specs.declared.refusal.Refusal.{Refusal}
 use Rattle.pm_cli.specs.declared.refusal.Refusal.TheVariants.{Text}
 use Rattle.pm_cli.specs.declared.refusal.Stop.{Stop}
 use Rattle.pm_cli.specs.declared.refusal.Stop.TheVariants.{Refused}
-use Rattle.pm_cli.specs.TreeFile.{rule_of_word, RefusesTreeFile, broken, no_tree}
+use Rattle.pm_cli.specs.declared.close.Trees.{Trees}
+use Rattle.pm_cli.specs.declared.close.Trees.TheVariants.{Blossoming, Stem}
+use Rattle.pm_cli.specs.Closing.{ClosesFile, broken, refused}
+use Rattle.pm_cli.specs.TreeKinds.{TreeKind, kind_of, trees_word}
 use Rattle.pm_cli.specs.steps.Answering.{StopsBy}
 use Rattle.pm_cli.specs.steps.FirstLine.{IsTagged}
-use Rattle.pm_cli.proofs.FirstLines.{IsWordKind, only_word, followed_word}
+use Rattle.pm_cli.proofs.BlossomingLaws.{blossoming_laws}
+use Rattle.pm_cli.proofs.FirstLines.{only_word, followed_word}
+use Rattle.pm_cli.proofs.StemLaws.{stem_laws}
+use Rattle.pm_cli.proofs.TreeKindLaws.{IsTreeKind}
+use Rattle.pm_cli.proofs.WordTables.{looked_up, one_value}
 
--- a letter is no newline
-letter_no_newline : (x : ℕ) → IsTrue (is_letter x) → x ≢ newline
-letter_no_newline x letter e = let none : IsTrue (is_letter newline) = subst (λ (y : ℕ). IsTrue (is_letter y)) e letter in cc
+-- the words of the kinds
+abbrev kinds : List (List ℕ × Trees)
+kinds = (codes "eulerian", Blossoming) ∷ (codes "tri", Stem) ∷ []
 
--- the word of one leaf is in order
-leaf_in_order : IsInOrder (codes "l")
-leaf_in_order = record {
-  letters = All-cons (λ x. IsTrue (is_letter x)) LEAF [] refl (All-nil (λ x. IsTrue (is_letter x)));
-  matched = record { equal = refl; never_below = below };
-} where
-  below : (k : ℕ) → count CLOSE (take k (codes "l")) ≤ count OPEN (take k (codes "l"))
-  below zero = omega arith
-  below (suc zero) = omega arith
-  below (suc (suc k)) = omega arith
+trees_found : (trees : Trees) → looked_up kinds (trees_word trees) ≡ Some trees
+trees_found Blossoming = refl
+trees_found Stem = refl
 
--- the words of trees behind their tag
-pub tree_words : IsWordKind (codes "tree ") IsInOrder
-tree_words = record {
-  tag_line =
-      HasNoNewline-cons 116 (codes "ree ") (omega arith) (HasNoNewline-cons 114 (codes "ee ") (omega arith)
-      (HasNoNewline-cons 101 (codes "e ") (omega arith) (HasNoNewline-cons 101 (codes " ") (omega arith) (HasNoNewline-cons 32 [] (omega arith) HasNoNewline-nil))));
-  lines = λ word order. record {
-    each = All-from_get_or (λ b. b ≢ newline) word 0
-        (λ i l. letter_no_newline (get_or word i 0) (All-get_or (λ x. IsTrue (is_letter x)) word i 0 l order.letters));
-  };
-  word = codes "l";
-  is = leaf_in_order;
-  some = omega arith;
-}
+pub one_trees : (a b : Trees) → trees_word a ≡ trees_word b → a ≡ b
+one_trees = one_value kinds trees_word trees_found
 
--- a word with a fault in its text isn't in order
-pub faulty_word : (word : List ℕ) (place : ℕ) → IsFirst (IsFault (contour word)) place → IsInOrder word → ⊥
-faulty_word word place fault order = no_fault word place order fault.here
+-- each kind has its laws
+pub kind_laws : (trees : Trees) → IsTreeKind (kind_of trees)
+kind_laws Blossoming = blossoming_laws
+kind_laws Stem = stem_laws
 
 -- a word in order that breaks a rule; where a line follows, that breaks the form of the file first
-pub ruled : (bytes word : List ℕ) (alone : Bool) (why : TreeRefusal) (refusal : Refusal) (stop : Stop) → IsTagged (codes "tree ") bytes word alone → IsInOrder word → IsAnswer word (Err why)
-    → rule_of_word why ≡ Some refusal → stop ≡ Refused (if alone then refusal else Text 2) → StopsBy (RefusesTreeFile bytes) stop
-ruled bytes word true why refusal stop line order answer rule is =
-    subst (StopsBy (RefusesTreeFile bytes)) (sym is)
-    (no_tree refusal why rule (record { word = word; spelled = only_word (codes "tree ") IsInOrder tree_words bytes word true line refl order; holds = answer }))
-ruled bytes word false why refusal stop line order answer rule is =
-    subst (StopsBy (RefusesTreeFile bytes)) (sym is) (broken 2 (followed_word (codes "tree ") IsInOrder tree_words bytes word false line refl order))
+pub ruled : (kind : TreeKind) → IsTreeKind kind → (bytes word : List ℕ) (alone : Bool) (refusal : Refusal) (stop : Stop) → IsTagged (codes "tree ") bytes word alone → kind.is_word word → kind.refuses word refusal
+    → stop ≡ Refused (if alone then refusal else Text 2) → StopsBy (λ why. ClosesFile kind bytes (Err why)) stop
+ruled kind laws bytes word true refusal stop line order breaks is =
+    subst (StopsBy (λ why. ClosesFile kind bytes (Err why))) (sym is)
+    (refused refusal (record { word = word; spelled = only_word (codes "tree ") kind.is_word laws.words bytes word true line refl order; holds = breaks }))
+ruled kind laws bytes word false refusal stop line order breaks is =
+    subst (StopsBy (λ why. ClosesFile kind bytes (Err why))) (sym is) (broken 2 (followed_word (codes "tree ") kind.is_word laws.words bytes word false line refl order))

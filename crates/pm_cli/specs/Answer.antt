@@ -6,23 +6,24 @@ use Rattle.pm_cli.specs.declared.command.Command.TheVariants.{Reads, Makes}
 use Rattle.pm_cli.specs.declared.command.Maker.{Maker}
 use Rattle.pm_cli.specs.declared.command.Maker.TheVariants.{Draw, Trip, Census}
 use Rattle.pm_cli.specs.declared.command.Reader.{Reader}
-use Rattle.pm_cli.specs.declared.command.Reader.TheVariants.{CloseEulerian, OpenEulerian, OfMap, Check, Unsample, Sample}
+use Rattle.pm_cli.specs.declared.command.Reader.TheVariants.{Close, OpenEulerian, OfMap, Check, Unsample, Sample}
 use Rattle.pm_cli.specs.declared.refusal.Limit.TheVariants.{Bytes}
 use Rattle.pm_cli.specs.declared.refusal.Refusal.{Refusal}
 use Rattle.pm_cli.specs.declared.refusal.Refusal.TheVariants.{Usage, Limited}
 use Rattle.pm_cli.specs.Classes.{AtSize, sized, class_at, counts_of}
-use Rattle.pm_cli.specs.Closing.{ClosesEulerian}
+use Rattle.pm_cli.specs.Closing.{ClosesFile}
 use Rattle.pm_cli.specs.Commands.{Spells, IsNoCommand}
 use Rattle.pm_cli.specs.Counting.{Counts}
 use Rattle.pm_cli.specs.Drawing.{Draws}
 use Rattle.pm_cli.specs.MapAnswers.{AnswersMap, task_relation, opening}
 use Rattle.pm_cli.specs.Sampling.{Samples}
+use Rattle.pm_cli.specs.TreeKinds.{kind_of}
 use Rattle.pm_cli.specs.Trip.{Trips}
 use Rattle.pm_cli.specs.Unsampling.{Unsamples}
 
 -- what a command answers to a file within the limit
 abbrev pub AnswersReader : Reader → List ℕ → Result (List ℕ) Refusal → Type 0
-AnswersReader CloseEulerian bytes answer = ClosesEulerian bytes answer
+AnswersReader (Close trees) bytes answer = ClosesFile (kind_of trees) bytes answer
 AnswersReader OpenEulerian bytes answer = AnswersMap opening bytes answer
 AnswersReader (OfMap task) bytes answer = AnswersMap (task_relation task) bytes answer
 AnswersReader (Check class) bytes answer = AnswersMap (counts_of class) bytes answer

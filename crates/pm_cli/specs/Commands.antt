@@ -4,7 +4,7 @@ use Rattle.pm_cli.specs.declared.class.Size.{Size}
 use Rattle.pm_cli.specs.declared.command.Command.{Command}
 use Rattle.pm_cli.specs.declared.command.Command.TheVariants.{Reads, Makes}
 use Rattle.pm_cli.specs.declared.command.Reader.{Reader}
-use Rattle.pm_cli.specs.declared.command.Reader.TheVariants.{CloseEulerian, OpenEulerian, OfMap, Check, Unsample, Sample}
+use Rattle.pm_cli.specs.declared.command.Reader.TheVariants.{Close, OpenEulerian, OfMap, Check, Unsample, Sample}
 use Rattle.pm_cli.specs.declared.command.MapTask.TheVariants.{Canon, Medial, Unmedial, Dual, Layers}
 use Rattle.pm_cli.specs.declared.command.Maker.{Maker}
 use Rattle.pm_cli.specs.declared.command.Maker.TheVariants.{Draw, Trip, Census}
@@ -12,6 +12,7 @@ use Rattle.pm_cli.specs.declared.words.TheConstants.{MAX_RECORDS}
 use Rattle.pm_cli.specs.declared.command.Verb.{Verb}
 use Rattle.pm_cli.specs.declared.command.Verb.TheVariants as verb
 use Rattle.pm_cli.specs.Classes.{IsSize, class_of, class_word, checked_word, size_word}
+use Rattle.pm_cli.specs.TreeKinds.{trees_word}
 
 abbrev pub verb_word : Verb → List ℕ
 verb_word verb.Close = codes "close"
@@ -38,7 +39,7 @@ number_words seed count = decimal seed ∷ decimal count ∷ []
 
 -- what the first word of a command tells to do, and the words behind it
 abbrev pub verb_of : Command → Verb
-verb_of (Reads CloseEulerian) = verb.Close
+verb_of (Reads (Close trees)) = verb.Close
 verb_of (Reads (OfMap task)) = verb.OfMap task
 verb_of (Reads OpenEulerian) = verb.Open
 verb_of (Reads (Check class)) = verb.Check
@@ -49,7 +50,7 @@ verb_of (Makes (Trip seed) size) = verb.Trip
 verb_of (Makes Census size) = verb.Census
 
 abbrev pub behind : Command → List (List ℕ)
-behind (Reads CloseEulerian) = codes "eulerian" ∷ []
+behind (Reads (Close trees)) = trees_word trees ∷ []
 behind (Reads (OfMap task)) = []
 behind (Reads OpenEulerian) = codes "eulerian" ∷ []
 behind (Reads (Check class)) = checked_word class ∷ []
@@ -72,7 +73,7 @@ pub record AreDrawNumbers (seed count : ℕ) : Type 0 where
 -- a command with a size is one where the class has maps of that size
 abbrev pub IsReader : Reader → Type 0
 IsReader (Sample size) = IsSize size
-IsReader CloseEulerian = ⊤
+IsReader (Close trees) = ⊤
 IsReader OpenEulerian = ⊤
 IsReader (OfMap task) = ⊤
 IsReader (Check class) = ⊤

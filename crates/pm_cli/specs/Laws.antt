@@ -6,9 +6,10 @@ use Rattle.pm_mapfile.specs.MapFile.{IsResidueLine}
 use Rattle.pm_cli.specs.declared.class.Checked.TheVariants.{Sampled}
 use Rattle.pm_cli.specs.declared.class.Class.{Class}
 use Rattle.pm_cli.specs.declared.class.Size.{Size}
+use Rattle.pm_cli.specs.declared.close.Trees.TheVariants.{Blossoming}
 use Rattle.pm_cli.specs.declared.command.MapTask.TheVariants.{Canon, Medial, Unmedial, Dual}
 use Rattle.pm_cli.specs.declared.command.Reader.{Reader}
-use Rattle.pm_cli.specs.declared.command.Reader.TheVariants.{CloseEulerian, OpenEulerian, OfMap, Check, Unsample, Sample}
+use Rattle.pm_cli.specs.declared.command.Reader.TheVariants.{Close, OpenEulerian, OfMap, Check, Unsample, Sample}
 use Rattle.pm_cli.specs.declared.command.Command.TheVariants.{Reads}
 use Rattle.pm_cli.specs.declared.refusal.Refusal.{Refusal}
 use Rattle.pm_cli.specs.Answer.{Answers}
@@ -38,17 +39,17 @@ AnswersByWords reader bytes answer = Answers (spelling (Reads reader)) bytes ans
 
 -- what `close eulerian` answers to a tree file, `open eulerian` answers by that file
 abbrev pub ClosedTreesOpen : (Reader → List ℕ → Result (List ℕ) Refusal → Type 0) → Type 0
-ClosedTreesOpen answers = (bytes text : List ℕ) → answers CloseEulerian bytes (Ok text) → answers OpenEulerian text (Ok bytes)
+ClosedTreesOpen answers = (bytes text : List ℕ) → answers (Close Blossoming) bytes (Ok text) → answers OpenEulerian text (Ok bytes)
 
 -- and what `open eulerian` answers to a map file, `close eulerian` answers as `canon` answers that file
 abbrev pub OpenedMapsClose : (Reader → List ℕ → Result (List ℕ) Refusal → Type 0) → Type 0
 OpenedMapsClose answers =
     (bytes text canonical : List ℕ) → answers OpenEulerian bytes (Ok text) → answers (OfMap Canon) bytes (Ok canonical)
-    → answers CloseEulerian text (Ok canonical)
+    → answers (Close Blossoming) text (Ok canonical)
 
 -- the command answers by the text of a map
 abbrev pub PrintsMap : Reader → Type 0
-PrintsMap CloseEulerian = ⊤
+PrintsMap (Close trees) = ⊤
 PrintsMap (OfMap task) = PrintsImage task
 PrintsMap OpenEulerian = ⊥
 PrintsMap (Check class) = ⊥

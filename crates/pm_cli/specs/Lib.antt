@@ -13,6 +13,7 @@ pub mod ProfileWord
 pub mod Records
 pub mod Sampling
 pub mod TreeFile
+pub mod TreeKinds
 pub mod Trip
 pub mod Unsampling
 pub mod WordLine

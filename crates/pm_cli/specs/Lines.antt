@@ -8,7 +8,7 @@ use Rattle.pm_cli.specs.declared.refusal.Limit.TheVariants.{Bytes, Letters, Edge
 use Rattle.pm_cli.specs.declared.refusal.MapRule.{MapRule}
 use Rattle.pm_cli.specs.declared.refusal.MapRule.TheVariants.{Permutation, Connected, Euler, Empty, Vertex, Face, Loop, Double}
 use Rattle.pm_cli.specs.declared.refusal.TreeRule.{TreeRule}
-use Rattle.pm_cli.specs.declared.refusal.TreeRule.TheVariants.{Degree, Buds, Matched}
+use Rattle.pm_cli.specs.declared.refusal.TreeRule.TheVariants.{Degree, Buds, Matched, Stems, Closes, Follows}
 use Rattle.pm_cli.specs.declared.refusal.Refusal.{Refusal}
 use Rattle.pm_cli.specs.declared.refusal.Refusal.TheVariants.{Usage, Text, Limited, Map, Tree, Invalid}
 use Rattle.pm_cli.specs.declared.refusal.Stop.{Stop}
@@ -63,6 +63,9 @@ abbrev pub text_of_rule : TreeRule → List ℕ
 text_of_rule (Degree place) = codes "tree degree " ++ decimal place
 text_of_rule (Buds place) = codes "tree buds " ++ decimal place
 text_of_rule (Matched bud) = codes "tree matched " ++ decimal bud
+text_of_rule (Stems place) = codes "tree stems " ++ decimal place
+text_of_rule (Closes side) = codes "tree closes " ++ decimal side
+text_of_rule (Follows stem) = codes "tree follows " ++ decimal stem
 
 abbrev pub text_of_refusal : Refusal → List ℕ
 text_of_refusal (Usage matched) = codes "usage " ++ decimal matched

@@ -1,9 +1,9 @@
 pub mod Answering
 pub mod ChoicesFile
 pub mod ClassLaws
+pub mod Closing
 pub mod FirstLine
 pub mod MapReading
 pub mod Streams
-pub mod TreeFile
 pub mod Unnamed
 pub mod Words

@@ -10,7 +10,7 @@ ghost use Rattle.pm_cli.specs.steps.Streams.{IsWritingRecords};
 
 use crate::check::check;
 use crate::class::{Class, Size};
-use crate::close::close_eulerian;
+use crate::close::close;
 use crate::command::{Maker, Reader};
 use crate::draw::make_of;
 use crate::open::open_eulerian;
@@ -31,7 +31,7 @@ pub(crate) fn answer(alloc: Global, reader: &Reader, bytes: &[u8]) -> Result<Vec
     ensures { IsAnswerBy (AnswersReader reader.now bytes.now) result }
 {
     match reader {
-        Reader::CloseEulerian => close_eulerian(alloc, bytes),
+        Reader::Close(trees) => close(alloc, *trees, bytes),
         Reader::OpenEulerian => open_eulerian(alloc, bytes),
         Reader::OfMap(task) => print(alloc, *task, bytes),
         Reader::Check(class) => check(alloc, *class, bytes),

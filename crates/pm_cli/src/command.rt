@@ -4,6 +4,7 @@ ghost use Rattle.pm_cli.specs.declared.command.Verb.{Verb};
 ghost use Rattle.pm_cli.specs.Commands.{verb_word};
 
 use crate::class::{Checked, Class, Size};
+use crate::close::Trees;
 
 /// A command, by where its answer comes from.
 #[derive(Drop)]
@@ -17,8 +18,8 @@ pub enum Command {
 /// A command that reads a file.
 #[derive(Drop)]
 pub enum Reader {
-    /// `close eulerian`: closes a blossoming tree.
-    CloseEulerian,
+    /// `close eulerian` and `close tri`: closes a tree of that kind.
+    Close(Trees),
     /// `open eulerian`: the tree that a map opens to, where its vertices have even degrees.
     OpenEulerian,
     /// Prints a text for any map.

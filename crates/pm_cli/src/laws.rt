@@ -40,7 +40,7 @@ pub fn opening_undoes_closing()
     ensures closed_by_words { OpenedMapsClose AnswersByWords }
 {}
 
-/// A law: what `canon`, `medial`, `unmedial`, `dual` or `close eulerian` answered, `canon` answers by that very text.
+/// A law: what `canon`, `medial`, `unmedial`, `dual` or `close` answered, `canon` answers by that very text.
 pub fn printed_maps_stay()
     ensures files { PrintedMapsStay AnswersReader }
     ensures words { PrintedMapsStay AnswersByWords }

@@ -26,6 +26,7 @@ mod words;
 mod writing;
 
 pub use class::{Checked, Class, Size};
+pub use close::Trees;
 pub use command::{Command, Maker, MapTask, Reader, Verb};
 pub use engine::run;
 pub use laws::{

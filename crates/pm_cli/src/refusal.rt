@@ -47,6 +47,12 @@ pub enum TreeRule {
     Buds { place: u32 },
     /// The plant is in a pair with this bud.
     Matched { bud: u32 },
+    /// The least node that hasn't two stems.
+    Stems { place: u32 },
+    /// The plant closes: at this side.
+    Closes { side: u32 },
+    /// The plant is free, and doesn't directly follow this free stem before it.
+    Follows { stem: u32 },
 }
 
 /// Why words and bytes have no text for an answer.
@@ -167,6 +173,9 @@ impl TreeRule {
             TreeRule::Degree { place } => format!(in alloc; "planarmap: tree degree {place}\n"),
             TreeRule::Buds { place } => format!(in alloc; "planarmap: tree buds {place}\n"),
             TreeRule::Matched { bud } => format!(in alloc; "planarmap: tree matched {bud}\n"),
+            TreeRule::Stems { place } => format!(in alloc; "planarmap: tree stems {place}\n"),
+            TreeRule::Closes { side } => format!(in alloc; "planarmap: tree closes {side}\n"),
+            TreeRule::Follows { stem } => format!(in alloc; "planarmap: tree follows {stem}\n"),
         }
     }
 }

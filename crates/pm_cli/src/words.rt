@@ -4,7 +4,7 @@ ghost use Rattle.pm_cli.specs.declared.words.TheConstants.{MAX_RECORDS};
 ghost use Rattle.pm_cli.specs.declared.command.Command.{Command};
 ghost use Rattle.pm_cli.specs.declared.command.Command.TheVariants.{Reads};
 ghost use Rattle.pm_cli.specs.declared.command.Verb.{Verb};
-ghost use Rattle.pm_cli.specs.declared.command.Verb.TheVariants.{Close, Draw, Trip};
+ghost use Rattle.pm_cli.specs.declared.command.Verb.TheVariants.{Open, Draw, Trip};
 ghost use Rattle.pm_cli.specs.declared.command.Reader.{Reader};
 ghost use Rattle.pm_cli.specs.Classes.{IsSize};
 ghost use Rattle.pm_cli.specs.Commands.{size_words, Spells, IsNoCommand, AreDrawNumbers, number_words};
@@ -133,7 +133,7 @@ fn seed_alone(words: &[String]) -> Result<u64, u32>
 // Reads the one word `eulerian`, or says how many of the words begin it.
 fn eulerian_alone(words: &[String]) -> Result<(), u32>
     ensures { MatchResult result (λ _. map string_bytes words.now ≡ codes "eulerian" ∷ [])
-        (λ k. (k < 2) × StopsAt (AreBehind Close) (map string_bytes words.now) k) }
+        (λ k. (k < 2) × StopsAt (AreBehind Open) (map string_bytes words.now) k) }
 {
     let Some((first, rest)) = words.split_first() else {
         return Err(0);
@@ -169,9 +169,7 @@ impl Command {
             (λ k. (k < 5) × StopsAt (AreBehind verb) (map string_bytes words.now) k)) }
     {
         match verb {
-            Verb::Close => Ok(eulerian_alone(words).map(|()| Command::Reads(
-                Reader::CloseEulerian,
-            ))),
+            Verb::Close => Ok(alone(words).map(|trees| Command::Reads(Reader::Close(trees)))),
             Verb::Open => Ok(eulerian_alone(words).map(|()| Command::Reads(Reader::OpenEulerian))),
             Verb::OfMap(task) => {
                 if words.is_empty() {

@@ -7,6 +7,7 @@ use Rattle.pm_cli.specs.declared.command.Verb.{Verb}
 use Rattle.pm_cli.specs.declared.command.Verb.TheVariants as verb
 use Rattle.pm_cli.specs.Classes.{IsSize, class_word, checked_word}
 use Rattle.pm_cli.specs.Commands.{size_words, number_words, verb_of, behind, IsCommand, AreDrawNumbers}
+use Rattle.pm_cli.specs.TreeKinds.{trees_word}
 
 -- the words are none of a set; the first k begin words of the set, and no more do
 pub record StopsAt (in_set : List (List ℕ) → Type 0) (words : List (List ℕ)) (k : ℕ) : Type 0 where
@@ -64,7 +65,7 @@ AreTripWords words = AreSizedWords AreSeedWords words
 
 -- the words that may stand behind a verb
 abbrev pub AreBehind : Verb → List (List ℕ) → Type 0
-AreBehind verb.Close = IsOneOf (λ word. word ≡ class_word class.Eulerian)
+AreBehind verb.Close = IsOneOf (IsWordOf trees_word)
 AreBehind verb.Open = IsOneOf (λ word. word ≡ class_word class.Eulerian)
 AreBehind (verb.OfMap task) = λ words. words ≡ []
 AreBehind verb.Check = IsOneOf (IsWordOf checked_word)
