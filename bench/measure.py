@@ -230,6 +230,11 @@ def tables(program):
         steps = [maker("trees.py", "deep", nodes), [program, "close", "eulerian"], maker("maps.py")]
         return Case(f"{nodes:,}", 2 * nodes, steps)
 
+    def triangulated(nodes):
+        steps = [maker("stems.py", nodes), [program, "close", "tri"], maker("maps.py")]
+        return Case(f"{nodes:,}", 3 * nodes, steps)
+
+    stems = [Case(f"{nodes:,}", 3 * nodes, [maker("stems.py", nodes)]) for nodes in SAMPLE_NODES]
     maps = [renamed(nodes) for nodes in MAP_NODES]
     more = maps + [renamed(LARGEST_NODES)]
     profiles = []
@@ -262,8 +267,10 @@ def tables(program):
     return [
         ("Deep trees, `close eulerian`", lambda case: ["close", "eulerian"], deep),
         ("Wide trees, `close eulerian`", lambda case: ["close", "eulerian"], wide),
+        ("Stem trees, `close tri`", lambda case: ["close", "tri"], stems),
         ("Maps, `canon`", lambda case: ["canon"], maps),
         ("Maps, `check general`", lambda case: ["check", "general"], maps),
+        ("Triangulations, `check tri`", lambda case: ["check", "tri"], list(map(triangulated, SAMPLE_NODES))),
         *map(sampling, CLASSES),
         ("Maps, `medial`", lambda case: ["medial"], more),
         ("Maps, `unmedial`", lambda case: ["unmedial"], more),
