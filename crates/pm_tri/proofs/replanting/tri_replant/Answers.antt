@@ -1,4 +1,3 @@
-use Rattle.pm_tri.specs.declared.letters.TheConstants.{STEM}
 use Rattle.pm_tri.proofs.Replants.{alike_from, stem_few}
 use Rattle.pm_tri.proofs.replanting.tri_replant.Goals as goal
 
