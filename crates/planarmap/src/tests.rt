@@ -197,7 +197,7 @@ check eulerian|map 33 0/v 0 1 2 3 4 5 6 7 8 9 10 11 12 13 14 15 16 17 18 19 20 2
 ";
 
 // A triangle, the tetrahedron, one with five vertices and the octahedron; and then maps that break one rule each. `tri` is
-// a word behind `check` alone.
+// a class of `check` alone.
 const TRIANGULATIONS: &str = "\
 check tri|map 3 0/v 0 2/v 1 4/v 3 5/end/|0|ok 3 3 2/
 check tri|map 3 3/v 5 3/v 4 1/v 0 2/end/residue 9 9/|0|ok 3 3 2/
